@@ -9,14 +9,19 @@
 #include <stdio.h>
 #include <stdlib.h>
 #include <string.h>
+#include <sys/eventfd.h>
+#include <sys/resource.h>
 #include <sys/wait.h>
+#include <unistd.h>
 
 #include "checkers.h"
 #include "common/standard.h"
 #include "children.h"
 #include "collect.h"
 #include "command.h"
+#include "deaths.h"
 #include "descendants.h"
+#include "folder.h"
 #include "hub.h"
 #include "lines.h"
 #include "keep.h"
@@ -36,35 +41,53 @@
 struct sum {
     uint64_t events, reports; /* findings of recorders are reports */
     uint64_t findings;
-    size_t incomplete, abrupt, crashed, with_reports, recorded, marks, unchecked;
+    size_t incomplete, abrupt, crashed, awaited, with_reports, recorded, marks, unchecked;
 };
 
-static void add_to(struct sum *sum, const struct process *joined)
+static void add_to(struct sum *sum, const struct process *joined, bool has_crashes)
 {
+    bool is_awaited = joined->is_awaited && !has_crashes;
     sum->events += joined->events;
     sum->reports += joined->reports + joined->findings;
     sum->findings += joined->findings;
     sum->with_reports += joined->reports + joined->findings > 0;
     sum->incomplete += !joined->is_complete;
     sum->abrupt += joined->is_abrupt;
-    sum->crashed += joined->is_crash;
+    sum->crashed += joined->is_crash && !is_awaited;
+    sum->awaited += joined->is_crash && is_awaited;
     sum->recorded += joined->has_checks;
     sum->marks += joined->is_mark;
     sum->unchecked += joined->is_unchecked;
 }
 
-static struct sum sum_up(void)
+/* If the command has ended well, a crash that a parent has waited for need not be shown: a test may want it. */
+static void find_awaited(pid_t command, int status)
+{
+    for (size_t i = 0; i < process_count() && WIFEXITED(status) && WEXITSTATUS(status) == 0; i++) {
+        struct process *first_seen = process_at(i);
+        if (!process_is_first_seen(first_seen) || first_seen->peer == command)
+            continue;
+        struct process joined = segments_joined(first_seen);
+        first_seen->is_awaited = joined.is_crash && joined.is_complete && !joined.is_ignored
+                                 && death_was_awaited(first_seen->peer);
+        if (first_seen->is_awaited)
+            report_again(first_seen);
+    }
+}
+
+static struct sum sum_up(const struct options *options, pid_t command, int status)
 {
     struct sum sum = {0};
     for (size_t i = 0; i < process_count(); i++)
         if (process_is_first_seen(process_at(i)))
             checker_sum_up(process_at(i));
     kin_look();
+    find_awaited(command, status);
     for (size_t i = 0; i < process_count(); i++) {
         if (!process_is_first_seen(process_at(i)))
             continue;
         struct process joined = segments_joined(process_at(i));
-        add_to(&sum, &joined);
+        add_to(&sum, &joined, options->crashes);
     }
     return sum;
 }
@@ -106,6 +129,14 @@ static void say_summary(const struct sum *sum, bool is_incomplete, bool lists_un
     say("asancol: %s; %zu process%s, %" PRIu64 " event%s%s", reports, count, plural(count, "es"), sum->events,
         plural(sum->events, "s"), complete);
     free(complete);
+}
+
+/* The same line as that of `awaited_text` of asancol-report. */
+static void say_awaited(size_t count)
+{
+    bool is_one = count == 1;
+    say("asancol: %zu process%s ended by %s waited for; --crashes shows %s", count, plural(count, "es"),
+        is_one ? "a signal that its parent" : "signals that their parents", is_one ? "it" : "them");
 }
 
 /* What holds of the run, and not of one process. */
@@ -162,12 +193,14 @@ static enum answer conclude(const struct options *options, const struct sum *sum
     } else if (nested_result() != NULL) {
         report_leave(nested_result());
     }
-    lines_say(options->quiet);
+    lines_say(options->quiet, options->crashes);
     for (size_t i = 0; i < outcome->troubles.count; i++)
         say("asancol: %s", outcome->troubles.items[i]);
     bool is_listed = options->unchecked != UNCHECKED_NO && unchecked_count() > 0;
     if (!options->quiet || is_incomplete || is_listed || answer == ANSWER_NONE || answer == ANSWER_ARGUMENTS)
         say_summary(sum, is_incomplete, options->unchecked != UNCHECKED_NO);
+    if (sum->awaited > 0 && (!options->quiet || is_incomplete))
+        say_awaited(sum->awaited);
     for (size_t i = 0; i < outcome->notes.count && (!options->quiet || is_incomplete); i++)
         say("asancol: %s", outcome->notes.items[i]);
     return answer;
@@ -198,11 +231,33 @@ static int status_of(const struct options *options, enum answer answer, const st
     return end_as(outcome->status);
 }
 
+/* One for signals, and one for what connects: a run that can take nothing in would wait for ever. A limit that can be
+   raised is, later. */
+static void need_descriptors(void)
+{
+    enum { NEEDED = 2 };
+    struct rlimit limit;
+    int taken[NEEDED], count = 0;
+    char allowed[64];
+    while (count < NEEDED && (taken[count] = eventfd(0, EFD_CLOEXEC)) >= 0)
+        count++;
+    bool is_enough = count == NEEDED || errno != EMFILE;
+    while (count > 0)
+        close(taken[--count]);
+    if (is_enough || getrlimit(RLIMIT_NOFILE, &limit) != 0 || limit.rlim_cur < limit.rlim_max)
+        return;
+    snprintf(allowed, sizeof allowed, "ulimit -n allows %ju", (uintmax_t)limit.rlim_cur);
+    hub_stop(); /* the removal takes a descriptor */
+    folder_remove();
+    fail(OWN_FAILURE, "too few descriptors", allowed);
+}
+
 static pid_t start(const struct options *options, int *signals)
 {
     int status = 0;
     say_open(options->log);
-    hub_open();
+    hub_open(options->quiet);
+    need_descriptors();
     children_begin();
     *signals = signals_open();
     descendants_note_inherited();
@@ -213,10 +268,10 @@ static pid_t start(const struct options *options, int *signals)
     if (command == 0) {
         int error = errno;
         nested_take_back();
-        hub_remove();
+        folder_remove();
         fail(status, options->command[0], strerror(error));
     }
-    signals_ignore_pipe();
+    signals_ignore_writes();
     if (!options->quiet && !options->live)
         progress_allow();
     return command;
@@ -230,7 +285,7 @@ static int check_files(const struct options *options)
         fail(OWN_FAILURE, "--files", "standard output is no socket: asancol-report --trace gives one");
     children_begin();
     int signals = signals_open();
-    signals_ignore_pipe();
+    signals_ignore_writes();
     report_begin(options);
     collect_files(options, signals);
     struct outcome outcome = {.notes = lowered_lines(options, false)};
@@ -245,7 +300,7 @@ int main(int count, char **argv)
     (void)count;
     fill_standard();
     struct options options = options_read(argv);
-    verdict_counts_leaks(options.leaks == LEAKS_YES);
+    verdict_begin(options.leaks == LEAKS_YES, !options.no_mismatches);
     if (options.are_files) {
         checkers_begin(&options);
         return check_files(&options);
@@ -255,8 +310,8 @@ int main(int count, char **argv)
     double started = now();
     pid_t command = start(&options, &signals);
     struct collected collected = collect(&options, command, signals);
-    struct sum sum = sum_up();
-    struct nested nested = nested_found(hub_folder());
+    struct sum sum = sum_up(&options, command, collected.status);
+    struct nested nested = nested_found();
     struct outcome outcome = {
         .seconds = now() - started,
         .status = collected.status,
@@ -273,7 +328,7 @@ int main(int count, char **argv)
     if (!outcome.nothing || is_incomplete)
         nested_note_recorded();
     enum answer answer = conclude(&options, &sum, &outcome, nested.is_there);
-    hub_remove();
+    folder_remove();
     is_incomplete |= is_error || !say_close();
     return status_of(&options, answer, &sum, &outcome, is_incomplete);
 }

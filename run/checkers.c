@@ -138,6 +138,11 @@ static bool has_sent_nothing(const struct process *process)
     return recv(process->connection, &byte, 1, MSG_PEEK | MSG_DONTWAIT) == 0;
 }
 
+bool checker_answers(struct process *process)
+{
+    return side_answer(process->connection, &process->side_error);
+}
+
 bool checker_start(struct process *process)
 {
     meet(process);

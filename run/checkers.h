@@ -11,6 +11,8 @@
 void checkers_begin(const struct options *options);
 /* Starts the checker of a process that has sent its first bytes. False: there are no resources now, try again. */
 bool checker_start(struct process *process);
+/* Whether what it has sent is a question, which comes before those bytes. It is answered. */
+bool checker_answers(struct process *process);
 /* Checks a trace that is in a file. Likewise. */
 bool checker_start_file(struct process *process);
 /* Judges all segments of a process again, at its end, and says what has changed. */

@@ -14,10 +14,12 @@
 #include <unistd.h>
 
 #include "common/text.h"
+#include "asking.h"
 #include "checkers.h"
 #include "children.h"
 #include "deaths.h"
 #include "descendants.h"
+#include "folder.h"
 #include "hub.h"
 #include "marks.h"
 #include "modules.h"
@@ -219,8 +221,8 @@ static void start_pending(const struct pollfd *polls)
     size_t kept = 0, count = run.pending_count;
     for (size_t i = 0; i < count; i++) {
         struct process *process = run.pending[i];
-        bool is_started = process->stage != STAGE_CONNECTED;
-        if (!is_started && polls[i].revents != 0 && now() >= run.short_until) {
+        bool is_started = process->stage != STAGE_CONNECTED, has_come = polls[i].revents != 0;
+        if (!is_started && has_come && now() >= run.short_until && !checker_answers(process)) {
             is_started = checker_start(process);
             if (!is_started)
                 run.short_until = now() + SHORTAGE;
@@ -231,10 +233,32 @@ static void start_pending(const struct pollfd *polls)
     run.pending_count = kept;
 }
 
+/* poll refuses more entries than a process may have descriptors, and counts those that it passes over. */
+static int poll_used(struct pollfd *polls, size_t count, int timeout)
+{
+    static struct pollfd *used;
+    static size_t room;
+    size_t next = 0;
+    if (room < count) {
+        room = 2 * count;
+        used = must(realloc(used, room * sizeof *used));
+    }
+    for (size_t i = 0; i < count; i++) {
+        polls[i].revents = 0;
+        if (polls[i].fd >= 0)
+            used[next++] = polls[i];
+    }
+    int found = poll(used, next, timeout);
+    for (size_t i = 0, at = 0; found >= 0 && i < count; i++)
+        if (polls[i].fd >= 0)
+            polls[i].revents = used[at++].revents;
+    return found;
+}
+
 /* Waits once, at most so long, and does what there is to do. */
 static void turn(double seconds)
 {
-    enum { SIGNALS, FIRST, SECOND, REPORT, FIXED };
+    enum { SIGNALS, FIRST, SECOND, REPORT, ASKING, FIXED = ASKING + ASKING_POLLS };
     static struct pollfd *polls;
     static size_t room;
     size_t count = run.pending_count;
@@ -247,15 +271,17 @@ static void turn(double seconds)
     for (int i = 0; i < HUB_LISTENERS; i++) /* -1 is passed over */
         polls[FIRST + i] = (struct pollfd){accepts ? hub_listeners()[i] : -1, POLLIN, 0};
     polls[REPORT] = report_poll();
+    seconds = asking_polls(polls + ASKING, seconds);
     for (size_t i = 0; i < count; i++)
         polls[FIXED + i] = (struct pollfd){is_short ? -1 : run.pending[i]->connection, POLLIN, 0};
     if ((is_short || report_held() > 0) && seconds > SHORTAGE)
         seconds = SHORTAGE; /* a report that does not take descriptors now shows no sign when it does */
-    if (poll(polls, count + FIXED, (int)(seconds * 1000) + (seconds > 0)) < 0)
+    if (poll_used(polls, count + FIXED, (int)(seconds * 1000) + (seconds > 0)) < 0)
         return;
     if (polls[SIGNALS].revents != 0)
         read_signals();
     report_send();
+    asking_take(polls + ASKING);
     start_pending(polls + FIXED);
     for (int i = 0; i < HUB_LISTENERS; i++)
         if (polls[FIRST + i].revents != 0)
@@ -351,7 +377,7 @@ static bool is_over(void)
         return false;
     if (run.cut != 0 && now() > run.cut + LAST)
         hub_stop(); /* new ones might come for ever */
-    return process_live_count() == 0 && !has_queue();
+    return process_live_count() == 0 && !has_queue() && !asking_is_any();
 }
 
 static void wait_for_room(void)
@@ -404,19 +430,23 @@ void collect_files(const struct options *options, int signals)
 }
 
 /* Traces, marks and results may have been in the folder. */
-static void note_loss_of_folder(void)
+static void note_loss_of_folder(const char *how)
 {
     struct process *process = process_add();
+    char why[120];
     process->is_mark = true;
-    checker_give_up(process, "the folder of the run was removed, with all that processes had left in it");
+    snprintf(why, sizeof why, "the folder of the run was %s, with all that processes had left in it", how);
+    checker_give_up(process, why);
 }
 
+/* Traces are found by the name of the folder: that of another one is not looked into. */
 static void check_files(void)
 {
-    DIR *entries = hub_folder() != NULL ? opendir(hub_folder()) : NULL;
+    const char *how = folder_lost();
+    DIR *entries = how == NULL ? folder_entries() : NULL;
     struct dirent *entry;
-    if (hub_folder() != NULL && entries == NULL)
-        note_loss_of_folder();
+    if (how != NULL)
+        note_loss_of_folder(how);
     while (entries != NULL && (entry = readdir(entries)) != NULL) {
         if (ends_with(entry->d_name, ".trace"))
             check_file(entry->d_name);
@@ -425,7 +455,7 @@ static void check_files(void)
         closedir(entries);
     while (process_live_count() > 0)
         turn(LOOK);
-    marks_take(hub_folder());
+    marks_take();
 }
 
 struct collected collect(const struct options *options, pid_t command, int signals)

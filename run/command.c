@@ -3,13 +3,16 @@
 
 #include <errno.h>
 #include <fcntl.h>
+#include <stdio.h>
 #include <stdlib.h>
 #include <string.h>
 #include <sys/prctl.h>
 #include <sys/wait.h>
 #include <unistd.h>
 
+#include "common/hub_name.h"
 #include "common/inherited.h"
+#include "common/text.h"
 #include "hub.h"
 #include "say.h"
 #include "signals.h"
@@ -30,6 +33,39 @@ static void set_environment(const struct options *options, const char *hub)
         setenv("ASANCOL_FULL", "1", 1);
     if (options->preloaded != NULL)
         setenv("LD_PRELOAD", options->preloaded, 1);
+}
+
+/* The settings in it, which hub_ask_name's socket gives. The log's name is from the root. */
+static struct {
+    char text[SETTINGS_MOST];
+    size_t length;
+} settings;
+
+static void add_setting(const char *entry)
+{
+    static const char log[] = "ASANCOL_LOG=";
+    char *folder = begins_with(entry, log) && entry[strlen(log)] != '/' && entry[strlen(log)] != 0 ? getcwd(NULL, 0)
+                                                                                                   : NULL;
+    const char *front = folder != NULL ? log : "", *rest = folder != NULL ? entry + strlen(log) : entry;
+    size_t room = sizeof settings.text - settings.length;
+    int count = snprintf(settings.text + settings.length, room, "%s%s%s%s", front, folder != NULL ? folder : "",
+                         folder != NULL ? "/" : "", rest);
+    if (count >= 0 && (size_t)count < room - 1)
+        settings.length += (size_t)count + 1;
+    free(folder);
+}
+
+static void note_settings(char *const *environment)
+{
+    for (; *environment != NULL; environment++)
+        if (begins_with(*environment, "ASANCOL_"))
+            add_setting(*environment);
+}
+
+const char *command_settings(size_t *length)
+{
+    *length = settings.length;
+    return settings.text;
 }
 
 /* What it inherits also without its environment. */
@@ -69,6 +105,7 @@ static _Noreturn void become(const struct options *options, const char *hub, cha
 pid_t command_start(const struct options *options, const char *hub, int *status)
 {
     char **environment = environment_for(options, hub);
+    note_settings(environment);
     volatile int error = 0;
     pid_t command = vfork(); /* we wait for the exec in any case */
     if (command < 0) {

@@ -8,5 +8,7 @@
 
 /* Starts it with ASANCOL_HUB. Answers its number, or 0, errno, and the status to end with. */
 pid_t command_start(const struct options *options, const char *hub, int *status);
+/* The settings in its environment, each ended by a zero. */
+const char *command_settings(size_t *length);
 
 #endif

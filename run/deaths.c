@@ -13,30 +13,38 @@
 struct noted {
     pid_t number;
     int status;
+    bool is_ours; /* and not as a parent knows it */
 };
 
 static struct noted *noted;
 static size_t count, room;
 
-void death_note(pid_t number, int status)
+static void note(struct noted one)
 {
     if (count == room) {
         room = room * 2 + 64;
         noted = must(realloc(noted, room * sizeof *noted));
     }
-    noted[count++] = (struct noted){number, status};
+    noted[count++] = one;
+}
+
+void death_note(pid_t number, int status)
+{
+    note((struct noted){number, status, true});
+}
+
+void death_note_of_parent(pid_t number, int status)
+{
+    note((struct noted){number, status, false});
 }
 
 /* The last of this number counts: the system gives numbers again. */
-static bool find_noted(pid_t number, int *status)
+static const struct noted *find_noted(pid_t number)
 {
-    for (size_t i = count; i > 0; i--) {
-        if (noted[i - 1].number == number) {
-            *status = noted[i - 1].status;
-            return true;
-        }
-    }
-    return false;
+    for (size_t i = count; i > 0; i--)
+        if (noted[i - 1].number == number)
+            return &noted[i - 1];
+    return NULL;
 }
 
 /* Numbers of the words after the name in /proc/NUMBER/stat, as proc(5) counts them. */
@@ -84,9 +92,32 @@ enum death death_of(pid_t number, int *status)
     bool is_gone = kill(number, 0) != 0 && errno == ESRCH;
     if (!is_gone && !is_zombie(number, status, &has_status))
         return DEATH_NONE;
-    if (find_noted(number, status))
+    const struct noted *found = find_noted(number);
+    if (found != NULL) {
+        *status = found->status;
         return DEATH_SEEN;
+    }
     return has_status ? DEATH_SEEN : DEATH_UNSEEN;
+}
+
+bool death_was_awaited(pid_t number)
+{
+    const struct noted *found = find_noted(number);
+    return number > 0 && kill(number, 0) != 0 && errno == ESRCH && (found == NULL || !found->is_ours);
+}
+
+bool ignores_deaths(pid_t number)
+{
+    char path[64], line[256];
+    unsigned long long ignored = 0;
+    bool is_found = false;
+    snprintf(path, sizeof path, "/proc/%d/status", number);
+    FILE *file = number > 0 ? fopen(path, "re") : NULL;
+    while (file != NULL && !is_found && fgets(line, sizeof line, file) != NULL)
+        is_found = sscanf(line, "SigIgn: %llx", &ignored) == 1;
+    if (file != NULL)
+        fclose(file);
+    return is_found && (ignored >> (SIGCHLD - 1)) % 2 == 1;
 }
 
 bool has_other_image(pid_t number)

@@ -14,9 +14,15 @@ enum death {
 
 /* Notes how a process has ended that waitpid has given to us. */
 void death_note(pid_t number, int status);
+/* Likewise, as a parent has said that has waited for it. */
+void death_note_of_parent(pid_t number, int status);
 /* What is known of a process, by its number here, and how it ended, as of waitpid. A number that another process has by
    now reads as one that still runs. */
 enum death death_of(pid_t number, int *status);
+/* Whether it is gone, and not we have waited for it, but somebody else. */
+bool death_was_awaited(pid_t number);
+/* Whether a process wants to hear nothing of the ends of its children, for which nobody waits then. */
+bool ignores_deaths(pid_t number);
 /* Whether it runs, and has no memory of a recorder mapped that a hub has had. */
 bool has_other_image(pid_t number);
 

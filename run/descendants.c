@@ -4,6 +4,7 @@
 #include <ctype.h>
 #include <dirent.h>
 #include <errno.h>
+#include <fcntl.h>
 #include <signal.h>
 #include <stdio.h>
 #include <stdlib.h>
@@ -156,25 +157,44 @@ void descendants_note_inherited(void)
     free(all);
 }
 
+/* A process's environment, and a 0, by one call: an exec between two would leave a part of it. Null: nobody may know
+   it. */
+static char *read_environment(pid_t number, size_t *length)
+{
+    char path[64], *text = NULL;
+    ssize_t got;
+    size_t room = 1 << 15;
+    snprintf(path, sizeof path, "/proc/%d/environ", number);
+    do {
+        int file = open(path, O_RDONLY | O_CLOEXEC);
+        text = must(realloc(text, (room *= 2) + 1));
+        got = file >= 0 ? read(file, text, room) : -1;
+        if (file >= 0)
+            close(file);
+    } while (got == (ssize_t)room);
+    if (got <= 0) { /* in the middle of an exec there is none */
+        free(text);
+        return NULL;
+    }
+    *length = (size_t)got;
+    text[got] = 0;
+    return text;
+}
+
 /* Whether a process was begun with the hub that was there for us, or like us without one. Those of the command have
    ours, unless it takes it away from them. False too, if nobody may know. */
 static bool has_hub_of_ours(pid_t number)
 {
     static const char name[] = "ASANCOL_HUB=";
-    const char *hub = getenv("ASANCOL_HUB");
-    char path[64], *entry = NULL;
-    size_t room = 0;
-    bool is_read = false, is_same = hub == NULL;
-    snprintf(path, sizeof path, "/proc/%d/environ", number);
-    FILE *environment = fopen(path, "re");
-    while (environment != NULL && getdelim(&entry, &room, 0, environment) > 0) {
-        is_read = true; /* in the middle of an exec there is none */
-        if (strncmp(entry, name, sizeof name - 1) == 0)
-            is_same = hub != NULL && strcmp(entry + sizeof name - 1, hub) == 0;
-    }
-    free(entry);
-    if (environment != NULL)
-        fclose(environment);
+    size_t length = 0;
+    char *text = read_environment(number, &length);
+    const char *hub = getenv("ASANCOL_HUB"), *found = NULL;
+    for (const char *at = text; at != NULL && at < text + length; at += strlen(at) + 1)
+        if (strncmp(at, name, sizeof name - 1) == 0)
+            found = at + sizeof name - 1;
+    bool is_both = found != NULL && hub != NULL, is_same = is_both ? strcmp(found, hub) == 0 : found == hub;
+    bool is_read = text != NULL;
+    free(text);
     return is_read && is_same;
 }
 

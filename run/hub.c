@@ -1,7 +1,6 @@
 #define _GNU_SOURCE
 #include "hub.h"
 
-#include <dirent.h>
 #include <errno.h>
 #include <stdbool.h>
 #include <stdio.h>
@@ -9,14 +8,16 @@
 #include <string.h>
 #include <sys/random.h>
 #include <sys/socket.h>
-#include <sys/stat.h>
+#include <sys/time.h>
 #include <unistd.h>
 
+#include "common/array.h"
 #include "common/hub_name.h"
+#include "common/text.h"
+#include "folder.h"
 #include "say.h"
 
-/* A folder's name ends so, and the socket's name follows: the one to which it is bound, and the one that it gets. */
-#define FOLDER_END "/asancol-XXXXXX"
+/* The socket's name in the folder: the one to which it is bound, and the one that it gets. */
 #define SOCKET_END "/hub"
 #define SECRET_END "-0123456789abcdef"
 enum { SECRET_BYTES = 8 };
@@ -24,7 +25,7 @@ enum { SECRET_BYTES = 8 };
 enum { ADDRESS_ROOM = sizeof((struct sockaddr_un *)0)->sun_path };
 
 static char folder[ADDRESS_ROOM], address[ADDRESS_ROOM + sizeof SOCKET_END];
-static int listeners[HUB_LISTENERS] = {-1, -1};
+static int listeners[HUB_LISTENERS] = {-1, -1}, asked[HUB_LISTENERS] = {-1, -1};
 
 static bool listen_at(int *listener, const char *text, bool is_abstract)
 {
@@ -60,24 +61,23 @@ static bool try_folder(const char *base)
 {
     static const char ends[] = FOLDER_END SOCKET_END SECRET_END;
     char bound[sizeof address];
-    if (base == NULL || base[0] != '/' || strlen(base) + sizeof ends > ADDRESS_ROOM)
+    /* The system lists names of sockets in lines. */
+    if (base == NULL || base[0] != '/' || strchr(base, '\n') != NULL || strlen(base) + sizeof ends > ADDRESS_ROOM
+        || folder_is_open_to_all(base))
         return false;
-    snprintf(folder, sizeof folder, "%s" FOLDER_END, base);
-    if (mkdtemp(folder) == NULL)
+    if (!folder_make(base, folder, sizeof folder))
         return false;
-    /* What the command has started may be another user's, and have no network of ours: the path is its only way. Nobody
-       else can list the folder. */
-    chmod(folder, 0711);
     snprintf(address, sizeof address, "%s" SOCKET_END, folder);
     snprintf(bound, sizeof bound, "%s", address);
     add_secret();
-    if (listen_at(&listeners[0], bound, false) && chmod(bound, 0777) == 0 && rename(bound, address) == 0)
+    if (listen_at(&listeners[0], bound, false) && folder_give_name(base_name(bound), base_name(address))) {
+        folder_sweep(base);
         return true;
+    }
     if (listeners[0] >= 0)
         close(listeners[0]);
     listeners[0] = -1;
-    unlink(bound);
-    rmdir(folder);
+    folder_remove();
     return false;
 }
 
@@ -89,16 +89,31 @@ static void name_without_folder(void)
     add_secret();
 }
 
-void hub_open(void)
+/* Where it is asked for settings. Whoever has not our environment does not know the secret. */
+static void listen_to_questions(bool has_folder)
+{
+    char name[ADDRESS_ROOM];
+    if (!hub_ask_name(name, sizeof name, address))
+        return;
+    if (has_folder && listen_at(&asked[0], name, false))
+        folder_open_socket(base_name(name));
+    listen_at(&asked[1], name, true);
+}
+
+void hub_open(bool is_quiet)
 {
     const char *const bases[] = {getenv("TMPDIR"), getenv("XDG_RUNTIME_DIR"), "/tmp", "/dev/shm", "/var/tmp"};
     bool has_folder = false;
-    for (size_t i = 0; i < sizeof bases / sizeof *bases && !has_folder; i++)
+    if (bases[0] != NULL && !is_quiet && folder_is_open_to_all(bases[0]))
+        say("asancol-run: TMPDIR: %s: anybody may move what is in it, so the folder of the run is made elsewhere: "
+            "chmod +t", bases[0]);
+    for (size_t i = 0; i < COUNT(bases) && !has_folder; i++)
         has_folder = try_folder(bases[i]);
     if (!has_folder)
         name_without_folder();
     if (!listen_at(&listeners[1], address, true) && !has_folder)
         fail(OWN_FAILURE, "no socket", strerror(errno));
+    listen_to_questions(has_folder);
 }
 
 const char *hub_address(void)
@@ -121,6 +136,11 @@ const int *hub_listeners(void)
     return listeners;
 }
 
+const int *hub_asked(void)
+{
+    return asked;
+}
+
 int hub_accept(int listener, struct ucred *peer)
 {
     for (;;) {
@@ -139,6 +159,15 @@ bool hub_is_secret(int listener)
     return listener == listeners[0];
 }
 
+bool hub_connect(int connection, const struct sockaddr_un *name, socklen_t size)
+{
+    struct timeval patience = {.tv_sec = 60};
+    /* The second is how long a place in a full queue is waited for. */
+    return setsockopt(connection, SOL_SOCKET, SO_RCVTIMEO, &patience, sizeof patience) == 0
+           && setsockopt(connection, SOL_SOCKET, SO_SNDTIMEO, &patience, sizeof patience) == 0
+           && connect(connection, (const struct sockaddr *)name, size) == 0;
+}
+
 bool hub_knock(const char *of_hub)
 {
     bool is_there = false;
@@ -146,7 +175,7 @@ bool hub_knock(const char *of_hub)
         struct sockaddr_un name;
         socklen_t size = hub_socket(&name, of_hub, is_abstract != 0);
         int made = socket(AF_UNIX, SOCK_STREAM | SOCK_CLOEXEC, 0);
-        is_there = size > 0 && made >= 0 && connect(made, (const struct sockaddr *)&name, size) == 0;
+        is_there = size > 0 && made >= 0 && (hub_connect(made, &name, size) || errno == EAGAIN);
         if (made >= 0)
             close(made);
     }
@@ -155,23 +184,10 @@ bool hub_knock(const char *of_hub)
 
 void hub_stop(void)
 {
-    for (int i = 0; i < HUB_LISTENERS; i++) {
-        if (listeners[i] >= 0)
-            close(listeners[i]);
-        listeners[i] = -1;
+    for (int i = 0; i < 2 * HUB_LISTENERS; i++) {
+        int *listener = i < HUB_LISTENERS ? &listeners[i] : &asked[i - HUB_LISTENERS];
+        if (*listener >= 0)
+            close(*listener);
+        *listener = -1;
     }
-}
-
-void hub_remove(void)
-{
-    DIR *entries = folder[0] != 0 ? opendir(folder) : NULL;
-    struct dirent *entry;
-    while (entries != NULL && (entry = readdir(entries)) != NULL)
-        if (strcmp(entry->d_name, ".") != 0 && strcmp(entry->d_name, "..") != 0)
-            unlinkat(dirfd(entries), entry->d_name, 0);
-    if (entries != NULL)
-        closedir(entries);
-    if (folder[0] != 0)
-        rmdir(folder);
-    folder[0] = 0;
 }

@@ -5,12 +5,13 @@
 #define ASANCOL_RUN_HUB_H
 
 #include <stdbool.h>
+#include <sys/socket.h>
 #include <sys/types.h>
 
 enum { HUB_LISTENERS = 2 };
 
 /* Fails if neither can be had. */
-void hub_open(void);
+void hub_open(bool is_quiet);
 /* What ASANCOL_HUB is for the command. */
 const char *hub_address(void);
 /* How many of its first bytes are the abstract name, which everybody may know; 0: there is none. */
@@ -19,17 +20,21 @@ size_t hub_public_length(void);
 const char *hub_folder(void);
 /* Their descriptors; -1 is one that is not there. */
 const int *hub_listeners(void);
+/* Likewise, of those where a process asks (asking.h). */
+const int *hub_asked(void);
 /* The next connection, and who has made it. -1: there is none, errno says why. */
 struct ucred;
 int hub_accept(int listener, struct ucred *peer);
 /* Whether who connects there knows the secret. */
 bool hub_is_secret(int listener);
+/* Connects to a name. A place in its queue is waited for no longer than a minute, and so is later what it sends: then
+   errno is EAGAIN. */
+struct sockaddr_un;
+bool hub_connect(int connection, const struct sockaddr_un *name, socklen_t size);
 /* Connects to another hub and sends nothing, so that it knows of a process that it does not see. False: it is not
    there any more. */
 bool hub_knock(const char *of_hub);
 /* Connections that come from now on fail. */
 void hub_stop(void);
-/* Removes the folder with all that is in it. */
-void hub_remove(void);
 
 #endif

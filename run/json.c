@@ -3,37 +3,23 @@
 #include <stdint.h>
 #include <string.h>
 
-/* How many bytes the character has that begins here; 0 if they are not UTF-8. */
-static size_t character_length(const unsigned char *at)
-{
-    static const uint32_t least[] = {0, 0, 0x80, 0x800, 0x10000};
-    size_t length = at[0] < 0x80 ? 1 : at[0] >> 5 == 6 ? 2 : at[0] >> 4 == 14 ? 3 : at[0] >> 3 == 30 ? 4 : 0;
-    if (length < 2)
-        return length;
-    uint32_t value = at[0] & (0x7fU >> length);
-    for (size_t i = 1; i < length; i++) {
-        if (at[i] >> 6 != 2)
-            return 0; /* the end of the text too */
-        value = value << 6 | (at[i] & 0x3f);
-    }
-    return value < least[length] || value > 0x10ffff || (value >= 0xd800 && value < 0xe000) ? 0 : length;
-}
+#include "printable.h"
 
 void json_text(FILE *to, const char *text)
 {
-    const unsigned char *at = (const unsigned char *)text;
+    uint32_t number;
+    size_t length;
     fputc('"', to);
-    while (*at != 0) {
-        size_t length = character_length(at);
+    for (const char *at = text; *at != 0; at += length > 0 ? length : 1) {
+        length = character_length(at, &number);
         if (*at == '"' || *at == '\\')
             fprintf(to, "\\%c", *at);
-        else if (*at < 0x20 || *at == 0x7f)
-            fprintf(to, "\\u%04x", *at);
+        else if (number < 0x20 || number == 0x7f)
+            fprintf(to, "\\u%04x", (unsigned)number);
         else if (length == 0)
-            fprintf(to, "\\udc%02x", *at);
+            fprintf(to, "\\udc%02x", (unsigned)number);
         else
             fwrite(at, 1, length, to);
-        at += length > 0 ? length : 1;
     }
     fputc('"', to);
 }

@@ -14,6 +14,7 @@
 
 #include "common/path.h"
 #include "children.h"
+#include "printable.h"
 #include "say.h"
 
 /* So many names are tried for a file. */
@@ -42,9 +43,12 @@ static void put_program(char *room, size_t size, const char *name)
 {
     const char *slash = strrchr(name, '/');
     snprintf(room, size, "%.64s", slash != NULL ? slash + 1 : name);
-    for (char *at = room; *at != 0; at++)
-        if ((unsigned char)*at <= ' ' || *at == 0x7f)
+    for (char *at = room; *at != 0;) {
+        size_t length = printable_length(at);
+        if (length == 0 || *at == ' ')
             *at = '_';
+        at += length > 0 ? length : 1;
+    }
     if (room[0] == 0 || room[0] == '.' || room[0] == '-')
         snprintf(room, size, "program");
 }

@@ -5,6 +5,7 @@
 #include <stdio.h>
 #include <stdlib.h>
 
+#include "marks.h"
 #include "processes.h"
 #include "report.h"
 #include "say.h"
@@ -94,11 +95,14 @@ static void look_for_children(void)
         if (!process_is_first_seen(first_seen) || is_of_unknown(first_seen))
             continue;
         struct key key = {first_seen->own_number, first_seen->started};
+        marks_excuse_words(first_seen);
         uint64_t came = rank(parents, count, &key, true) - rank(parents, count, &key, false);
         uint64_t forks = forks_of(first_seen);
         uint64_t missing = forks > came ? forks - came : 0, excused = missing < unknown ? missing : unknown;
         unknown -= excused;
         missing -= excused;
+        while (missing > 0 && marks_excuse_child(first_seen))
+            missing--;
         if (missing == 1)
             BLAME(first_seen, "a child that it forked never connected");
         else if (missing > 1)

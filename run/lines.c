@@ -55,28 +55,29 @@ static void say_one(const struct line *line)
 }
 
 /* The line of a process of which there is more to say than that it was complete, or null. */
-static char *line_of(const struct process *process, bool is_quiet)
+static char *line_of(const struct process *process, bool is_quiet, bool has_crashes)
 {
     char *text = NULL;
     const char *form = NULL;
+    bool is_crash = process->is_crash && (has_crashes || !process->is_awaited);
     if (!process->is_complete)
         form = "%s: INCOMPLETE: %s";
-    else if (process->is_abrupt && (!is_quiet || process->is_crash))
+    else if (process->is_abrupt && (!is_quiet || is_crash))
         form = "%s: %s: seen up to there";
-    else if (process->is_crash)
+    else if (is_crash)
         form = "%s: %s";
     if (form != NULL && asprintf(&text, form, process->name, process->why) < 0)
         must(NULL);
     return text;
 }
 
-void lines_say(bool is_quiet)
+void lines_say(bool is_quiet, bool has_crashes)
 {
     struct line *lines = NULL;
     size_t count = 0;
     for (size_t i = 0; i < process_count(); i++) {
         struct process process = segments_joined(process_at(i));
-        char *text = process_is_first_seen(process_at(i)) ? line_of(&process, is_quiet) : NULL;
+        char *text = process_is_first_seen(process_at(i)) ? line_of(&process, is_quiet, has_crashes) : NULL;
         size_t at = 0;
         if (text == NULL)
             continue;

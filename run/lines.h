@@ -8,6 +8,6 @@
 void lines_say_complete(void);
 /* Of those that were incomplete, crashed or ended abruptly, as asancol-report has them: one line for all that have
    the same. `is_quiet`: an end that is abrupt alone has none. */
-void lines_say(bool is_quiet);
+void lines_say(bool is_quiet, bool has_crashes);
 
 #endif

@@ -59,6 +59,25 @@ static const char *made(const struct line *line)
     return text;
 }
 
+/* Each process has come to it at another number of bytes, and there is one line for all of them: that of the first. */
+static void add_used_again(struct strings *texts)
+{
+    struct line line = {.count = 0};
+    for (size_t i = 0; i < process_count(); i++) {
+        const struct process *process = process_at(i);
+        uint64_t bytes = process_is_first_seen(process) ? segments_joined(process).used_again : 0;
+        if (bytes == 0 || line.count++ > 0)
+            continue;
+        bool is_large = bytes >= 1000000000;
+        snprintf(line.text, sizeof line.text,
+                 "handed out freed memory again after %.1f %s of blocks, so later uses after free may be missed",
+                 (double)bytes / (is_large ? 1e9 : 1e6), is_large ? "GB" : "MB");
+        line.first = process;
+    }
+    if (line.count > 0)
+        strings_add(texts, made(&line));
+}
+
 struct strings lowered_lines(const struct options *options, bool has_recorded)
 {
     struct line lines[MAX_LINES];
@@ -84,5 +103,6 @@ struct strings lowered_lines(const struct options *options, bool has_recorded)
     }
     for (size_t i = 0; i < count; i++)
         strings_add(&texts, made(&lines[i]));
+    add_used_again(&texts);
     return texts;
 }

@@ -10,7 +10,9 @@
 #include <unistd.h>
 
 #include "common/text.h"
+#include "folder.h"
 #include "hub.h"
+#include "outer.h"
 #include "say.h"
 
 #define FRONT "nested."
@@ -24,7 +26,7 @@ static const char *outer; /* the socket of the run round this one, or null */
 void nested_begin(void)
 {
     char folder[PATH_MAX];
-    outer = getenv("ASANCOL_HUB");
+    outer = outer_hub();
     const char *slash = outer != NULL ? strrchr(outer, '/') : NULL;
     if (slash == NULL || slash == outer || slash - outer > PATH_MAX / 2)
         return;
@@ -75,23 +77,23 @@ void nested_note_recorded(void)
 }
 
 /* Whether a run that has begun has left a result. */
-static bool has_result(const char *folder, const char *begun)
+static bool has_result(int folder, const char *begun)
 {
-    char path[PATH_MAX + 256];
-    snprintf(path, sizeof path, "%s/%.*s" RESULT, folder, (int)(strlen(begun) - strlen(BEGUN)), begun);
-    return access(path, F_OK) == 0;
+    char name[NAME_MAX + sizeof RESULT];
+    snprintf(name, sizeof name, "%.*s" RESULT, (int)(strlen(begun) - strlen(BEGUN)), begun);
+    return faccessat(folder, name, F_OK, 0) == 0;
 }
 
-struct nested nested_found(const char *folder)
+struct nested nested_found(void)
 {
     struct nested found = {0};
-    DIR *entries = folder != NULL ? opendir(folder) : NULL;
+    DIR *entries = folder_entries();
     struct dirent *entry;
     while (entries != NULL && (entry = readdir(entries)) != NULL)
-        if (strncmp(entry->d_name, FRONT, strlen(FRONT)) == 0) {
+        if (begins_with(entry->d_name, FRONT)) {
             found.is_there |= ends_with(entry->d_name, RESULT);
             found.has_recorded |= ends_with(entry->d_name, RECORDED);
-            found.lost += ends_with(entry->d_name, BEGUN) && !has_result(folder, entry->d_name);
+            found.lost += ends_with(entry->d_name, BEGUN) && !has_result(dirfd(entries), entry->d_name);
         }
     if (entries != NULL)
         closedir(entries);

@@ -23,6 +23,6 @@ struct nested {
     bool is_there, has_recorded;
     uint64_t lost; /* runs that have begun and left no result */
 };
-struct nested nested_found(const char *folder);
+struct nested nested_found(void);
 
 #endif

@@ -22,6 +22,7 @@
     "Text:\n" \
     "  --log-file FILE          where all lines go, not to standard error\n" \
     "  --live                   reports of a process when it ends, not all at the end\n" \
+    "  --crashes                crashes that a parent waited for, too\n" \
     "  --source-root DIR        show files under DIR by their paths from there\n" \
     "  --color WHEN             colors: auto, always or never (auto)\n" \
     "  --full-stacks            print all frames of a stack, and whole names\n" \
@@ -68,6 +69,7 @@
     {"keep", 0, SET_FOLDER, AT(keep), 0, 0, NULL}, \
     {"log-file", 0, SET_OUTPUT, AT(log), 0, 0, NULL}, \
     {"live", 0, PASS_FLAG, AT(live), 0, 0, NULL}, \
+    {"crashes", 0, PASS_FLAG, AT(crashes), 0, 0, NULL}, \
     {"source-root", 0, PASS_FOLDER, 0, 0, 0, NULL}, \
     {"color", 0, PASS_WORDS, 0, 0, 0, (const char *const[]){"auto", "always", "never", NULL}}, \
     {"full-stacks", 0, PASS_FLAG, 0, 0, 0, NULL}, \

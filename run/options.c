@@ -80,10 +80,11 @@ static const char *nearest(const char *name, size_t length)
 static _Noreturn void fail_unknown(const char *word, size_t length)
 {
     const char *name = word[1] == '-' ? nearest(word + 2, length - 2) : NULL;
-    fprintf(stderr, "asancol-run: there is no option %.*s", (int)length, word);
     if (name != NULL)
-        fprintf(stderr, "; is --%s meant?", name);
-    fputs("\nasancol-run --help lists the options\n", stderr);
+        say("asancol-run: there is no option %.*s; is --%s meant?", (int)length, word, name);
+    else
+        say("asancol-run: there is no option %.*s", (int)length, word);
+    say("asancol-run --help lists the options");
     exit(OWN_FAILURE);
 }
 
@@ -133,8 +134,8 @@ static uint64_t number_of(const struct option *option, const char *text)
     uint64_t number;
     if (read_number(text, false, &number) && number >= option->least && number <= option->most)
         return number;
-    fprintf(stderr, "asancol-run: --%s: %s is no number from %" PRIu64 " to %" PRIu64 "\n", option->name, text,
-            option->least, option->most);
+    say("asancol-run: --%s: %s is no number from %" PRIu64 " to %" PRIu64, option->name, text,
+        option->least, option->most);
     exit(OWN_FAILURE);
 }
 
@@ -144,8 +145,8 @@ static double seconds_of(const struct option *option, const char *text)
     uint64_t number;
     if (read_number(text, true, &number) && number >= option->least && number <= option->most * 1000)
         return (double)number / 1000;
-    fprintf(stderr, "asancol-run: --%s: %s is no number of seconds from %s to %" PRIu64 "\n", option->name, text,
-            option->least > 0 ? "0.001" : "0", option->most);
+    say("asancol-run: --%s: %s is no number of seconds from %s to %" PRIu64, option->name, text,
+        option->least > 0 ? "0.001" : "0", option->most);
     exit(OWN_FAILURE);
 }
 
@@ -165,7 +166,7 @@ static void demand_output(const char *dashed, const char *path)
         if (access(folder, W_OK | X_OK) == 0)
             return;
     }
-    fprintf(stderr, "asancol-run: %s: %s: %s\n", dashed, path, strerror(errno));
+    say("asancol-run: %s: %s: %s", dashed, path, strerror(errno));
     exit(OWN_FAILURE);
 }
 
@@ -188,7 +189,7 @@ static void demand_alone(const char *dashed, const char *path)
     for (size_t i = 0; i < output_count && !is_other; i++)
         if (strcmp(outputs[i].option, dashed) != 0 && strcmp(outputs[i].name, slash + 1) == 0
             && outputs[i].seen.st_dev == folder.st_dev && outputs[i].seen.st_ino == folder.st_ino) {
-            fprintf(stderr, "asancol-run: %s: %s is the file of %s too\n", dashed, path, outputs[i].option);
+            say("asancol-run: %s: %s is the file of %s too", dashed, path, outputs[i].option);
             exit(OWN_FAILURE);
         }
     if (is_other)
@@ -208,7 +209,7 @@ static void demand(const char *dashed, const char *path, bool is_folder)
         else if (access(path, is_folder ? X_OK : R_OK) == 0)
             return;
     }
-    fprintf(stderr, "asancol-run: %s: %s: %s\n", dashed, path, strerror(errno));
+    say("asancol-run: %s: %s: %s", dashed, path, strerror(errno));
     exit(OWN_FAILURE);
 }
 
@@ -225,7 +226,7 @@ static void pass_descriptor(struct options *options, const char *dashed, const c
     int copy = fcntl(name_descriptor(name), F_DUPFD_CLOEXEC, STDERR_FILENO + 1);
     char *path;
     if (copy < 0 || (fcntl(copy, F_GETFL) & O_ACCMODE) == O_RDONLY) {
-        fprintf(stderr, "asancol-run: %s: %s: %s\n", dashed, name, strerror(EBADF));
+        say("asancol-run: %s: %s: %s", dashed, name, strerror(EBADF));
         exit(OWN_FAILURE);
     }
     if (asprintf(&path, "/dev/fd/%d", copy) < 0)
@@ -263,9 +264,11 @@ static void pass_word(struct options *options, const struct option *option, cons
     while (option->words[place] != NULL && strcmp(option->words[place], value) != 0)
         place++;
     if (option->words[place] == NULL) {
-        fprintf(stderr, "asancol-run: %s: %s is none of ", dashed, value);
-        for (size_t i = 0; i < place; i++)
-            fprintf(stderr, "%s%s", option->words[i], i + 2 < place ? ", " : i + 1 < place ? " and " : "\n");
+        char words[160] = "";
+        for (size_t i = 0, length = 0; i < place && length < sizeof words; i++)
+            length += (size_t)snprintf(words + length, sizeof words - length, "%s%s", option->words[i],
+                                       i + 2 < place ? ", " : i + 1 < place ? " and " : "");
+        say("asancol-run: %s: %s is none of %s", dashed, value, words);
         exit(OWN_FAILURE);
     }
     if (option->offset == AT(unchecked))

@@ -18,7 +18,7 @@ struct options {
     uint64_t at_least;
     double wait;
     double timeout; /* 0: none */
-    bool quiet, verbose, live;
+    bool quiet, verbose, live, crashes;
     bool no_mismatches;     /* of families of functions that allocate: they are not noted */
     bool records_full;      /* each malloc and free */
     bool preloads;          /* the recorder into programs that asancol-cc did not build */

@@ -41,6 +41,21 @@ enum peer peer_judge(const struct ucred *peer, bool knows_secret)
     return PEER_OURS;
 }
 
+enum peer peer_judge_asker(const struct ucred *peer)
+{
+    bool is_of_user = peer->uid == getuid() || peer->uid == 0;
+    switch (descendants_kinship(peer->pid)) {
+    case KINSHIP_OURS:
+        if (!is_of_user)
+            remember(peer->uid);
+        return PEER_OURS;
+    case KINSHIP_UNKNOWN:
+        return is_of_user ? PEER_OURS : PEER_STRANGER;
+    default:
+        return is_of_user ? PEER_OTHERS : PEER_STRANGER;
+    }
+}
+
 void peer_say_refused(const struct ucred *peer)
 {
     if (refused++ < MAX_LINES)

@@ -10,11 +10,14 @@
 enum peer {
     PEER_OURS,
     PEER_STRANGER, /* another user's, and not the command's */
-    PEER_UNKNOWN   /* another user's, and gone before it was seen who has started it */
+    PEER_UNKNOWN,  /* another user's, and gone before it was seen who has started it */
+    PEER_OTHERS    /* our user's or root's, and not the command's: another run's, whose mark is the same */
 };
 
 struct ucred;
 enum peer peer_judge(const struct ucred *peer, bool knows_secret);
+/* Of one that has found the run by its mark alone, and waits for an answer. */
+enum peer peer_judge_asker(const struct ucred *peer);
 /* A line that it is refused; after some of them they are only counted. */
 void peer_say_refused(const struct ucred *peer);
 /* A line with how many were only counted. */

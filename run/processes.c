@@ -86,7 +86,4 @@ void process_name(struct process *process)
 void process_set_name(struct process *process, const char *name)
 {
     process->name = must(strndup(name, MAX_NAME_LENGTH));
-    for (char *at = process->name; *at != 0; at++)
-        if ((unsigned char)*at < ' ' || *at == 0x7f)
-            *at = '?'; /* it is printed on terminals */
 }

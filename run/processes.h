@@ -27,6 +27,7 @@ struct process {
     int own_number, parent;             /* as it knows them itself */
     int connection, side_memory, verdicts; /* descriptors; -1: there is none */
     const struct side *side;            /* or null */
+    int side_error;                     /* by which the process could not make that memory, or 0 */
     struct modules modules;             /* until it is done */
     uint64_t quarantine;                /* how many bytes of freed blocks it holds */
     struct side_settings settings;      /* zeros, if they are not known */
@@ -56,14 +57,21 @@ struct process {
     uint64_t findings;          /* places of which its recorder says that something is wrong there, */
     uint64_t leaks;             /* and those that leak, if leaks are summed up: then they are no findings */
     bool leaks_missed;          /* they were to be looked for, and could not be */
+    uint64_t skipped;           /* enum side_skipped: of what was wanted */
+    uint64_t used_again;        /* how many bytes of blocks it had handed out when freed memory came again; or 0 */
     uint64_t forks;             /* how many children it has made by fork, which are to be here */
+    pid_t *children;            /* the numbers of the last of them, by its word; or null */
+    size_t child_count;
     int of_parent;              /* the number of whoever has forked it, as it knows that itself; */
     uint64_t of_parent_started; /* and when that was begun; 0: nobody that was recorded */
+    bool is_closed_off;         /* it has closed its descriptors, that of its stream too */
     bool becomes;    /* it became a program that is to be here, and no mark says so */
     uint32_t ending; /* enum ending */
     bool is_cut_at_limit; /* it is incomplete since it went on after the limit of events */
     unsigned signal; /* that has ended it, as the recorder saw; or 0 */
-    bool is_crash;   /* and it is one of a mistake */
+    bool is_crash;   /* and it is one of a mistake, */
+    bool is_ignored; /* of which whoever has started it wants to hear nothing, */
+    bool is_awaited; /* or which whoever has started it has waited for, and the command has ended well all the same */
     bool was_replaced; /* it did not end: another program runs in its place */
     bool is_abrupt;  /* the recorder did not see its end, and what it did up to there was seen all the same */
     bool is_complete, has_checks;

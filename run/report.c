@@ -155,8 +155,12 @@ static void put_process(FILE *to, struct process *process, const struct process 
     json_text(to, process->why);
     if (process->findings > 0)
         fprintf(to, ",\"findings\":%" PRIu64, process->findings);
+    if (process->used_again > 0)
+        fprintf(to, ",\"used_again\":%" PRIu64, process->used_again);
     if (process->is_abrupt)
         fputs(",\"abrupt\":true", to);
+    if (process->is_awaited)
+        fputs(",\"awaited\":true", to);
     fputs(",\"command\":", to);
     put_words(to, process);
     if (process->segments > 1)

@@ -11,6 +11,7 @@
 #include <unistd.h>
 
 #include "names.h"
+#include "printable.h"
 
 static int log_descriptor = STDERR_FILENO;
 static bool has_failed, is_progress_allowed, is_progress_shown;
@@ -53,6 +54,17 @@ void say_text(const char *text, size_t length)
         has_failed = true;
 }
 
+/* The line of a text, as it is printed. It frees the text. */
+static char *line_of(char *text)
+{
+    char *shown = printable(text), *line;
+    if (asprintf(&line, "%s\n", shown) < 0)
+        must(NULL);
+    free(shown);
+    free(text);
+    return line;
+}
+
 void say(const char *form, ...)
 {
     va_list rest;
@@ -60,13 +72,11 @@ void say(const char *form, ...)
     va_start(rest, form);
     int length = vasprintf(&text, form, rest);
     va_end(rest);
-    if (length < 0) {
-        has_failed = true;
-        return;
-    }
-    text[length] = '\n'; /* in the place of its end: one line is one write */
-    say_text(text, (size_t)length + 1);
-    free(text);
+    if (length < 0)
+        must(NULL);
+    char *line = line_of(text);
+    say_text(line, strlen(line)); /* one line is one write */
+    free(line);
 }
 
 bool say_close(void)
@@ -79,14 +89,21 @@ bool say_close(void)
 
 void fail(int status, const char *of, const char *what)
 {
+    char *text;
+    if (asprintf(&text, "asancol-run: %s: %s", of, what) < 0)
+        must(NULL);
+    char *line = line_of(text);
     progress_erase();
-    fprintf(stderr, "asancol-run: %s: %s\n", of, what);
+    write_all(STDERR_FILENO, line, strlen(line));
     exit(status);
 }
 
 void no_memory(void)
 {
-    fail(OWN_FAILURE, "cannot go on", "no memory");
+    static const char line[] = "asancol-run: cannot go on: no memory\n";
+    progress_erase();
+    write_all(STDERR_FILENO, line, sizeof line - 1);
+    exit(OWN_FAILURE);
 }
 
 double now(void)

@@ -14,7 +14,7 @@ enum { OWN_FAILURE = 125, NOT_EXECUTABLE = 126, NOT_FOUND = 127 };
 /* The log is this file, or standard error if it is null. Fails if it cannot be opened. */
 void say_open(const char *path);
 int say_descriptor(void);
-/* A line of the log. */
+/* A line of the log: what can't be printed is escaped. */
 void say(const char *form, ...) __attribute__((format(printf, 1, 2)));
 /* Text of the log as it is. */
 void say_text(const char *text, size_t length);

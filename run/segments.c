@@ -128,7 +128,8 @@ bool segments_are_complete(const struct process *process)
 static bool is_seen(const struct process *segment)
 {
     bool is_good = segment->is_complete || segment->is_unchecked;
-    return is_good && (segment->next == NULL || strcmp(segment->fate, "closed") == 0);
+    bool has_end = segment->next == NULL || segment->is_closed_off || strcmp(segment->fate, "closed") == 0;
+    return is_good && has_end;
 }
 
 /* Says of the whole process what is wrong with one of its segments. */
@@ -160,7 +161,10 @@ static bool is_flawed(struct process *joined, const struct process *front)
             return true;
         }
         if (!has_next(at)) {
-            WHY("its next segment did not come%s", at->next != NULL ? ", and later ones did" : "");
+            WHY("%s%s",
+                at->is_closed_off ? "it has closed all its descriptors, and did not connect again"
+                                  : "its next segment did not come",
+                at->next != NULL ? ", and later ones did" : "");
             return true;
         }
     }
@@ -178,7 +182,7 @@ static const struct process *add_up(struct process *joined, const struct process
 {
     const struct process *last = front;
     joined->events = joined->reports = joined->left_out = joined->stated = joined->segments = 0;
-    joined->findings = joined->leaks = 0;
+    joined->findings = joined->leaks = joined->used_again = 0;
     joined->has_checks = false;
     joined->kept = NULL;
     joined->side = NULL;
@@ -187,6 +191,8 @@ static const struct process *add_up(struct process *joined, const struct process
         joined->reports += at->reports;
         joined->findings += at->findings;
         joined->leaks += at->leaks;
+        if (joined->used_again == 0)
+            joined->used_again = at->used_again;
         joined->left_out += at->left_out;
         joined->has_checks |= at->has_checks;
         joined->segments++;
@@ -210,6 +216,7 @@ struct process segments_joined(const struct process *process)
     const struct process *last = add_up(&joined, first_seen->first_segment);
     joined.signal = last->signal;
     joined.is_crash = last->is_crash;
+    joined.is_ignored = last->is_ignored;
     memcpy(joined.fate, last->fate, sizeof joined.fate);
     bool is_good = !is_flawed(&joined, first_seen->first_segment);
     joined.is_complete = is_good && joined.has_checks;

@@ -2,9 +2,14 @@
 #ifndef ASANCOL_RUN_SIDE_H
 #define ASANCOL_RUN_SIDE_H
 
+#include <sys/types.h>
+
 #include "common/format.h"
 #include "modules.h"
 
+/* Whether a process asks for a side memory, since it could not make one: then it gets one, if there can be one here.
+   The number of its error. */
+bool side_answer(int connection, int *error);
 /* The descriptor that came with the first bytes of a connection, or -1; and the files that came after it. The bytes
    stay there for the checker. */
 int side_receive(int connection, struct modules *modules);
@@ -14,9 +19,13 @@ const struct side *side_map(int descriptor);
 const struct side *side_read(const char *path);
 /* How many bytes it holds of freed blocks. No process can hold more than a checker takes: more counts as that. */
 uint64_t side_quarantine(const struct side *side);
+/* How many faults and findings are in its list. */
+uint32_t side_entries(const struct side *side);
 /* What was set for it. */
 struct side_settings side_settings(const struct side *side);
-/* How far the process has come. */
+/* Puts the numbers of the last children that it has forked, SIDE_CHILDREN at most, and answers how many. */
+size_t side_children(const struct side *side, pid_t *children);
+/* How far the process has come, without its children. */
 struct side_progress side_progress(const struct side *side);
 void side_unmap(const struct side *side);
 

@@ -64,10 +64,11 @@ void signals_restore(void)
     sigprocmask(SIG_SETMASK, &mask_before, NULL);
 }
 
-void signals_ignore_pipe(void)
+void signals_ignore_writes(void)
 {
     struct sigaction none = {.sa_handler = SIG_IGN};
     sigaction(SIGPIPE, &none, NULL);
+    sigaction(SIGXFSZ, &none, NULL);
 }
 
 /* Stops as without us: not at all if no shell would let us go on. */

@@ -9,8 +9,9 @@
 int signals_open(void);
 /* In the child that becomes the command: as it was before. */
 void signals_restore(void);
-/* A pipe without a reader is an error from now on, and no end. */
-void signals_ignore_pipe(void);
+/* A pipe without a reader, and a file that may not grow, are errors from now on, and no end: of a checker too, which
+   can't ask for that itself. */
+void signals_ignore_writes(void);
 /* Reads all that have come, and passes them on to the command, if it is not 0. Answers how many have come that want an
    end. */
 int signals_read(int descriptor, pid_t command);

@@ -55,6 +55,23 @@ static void take_line(char *line)
         add(&unchecked.own, line);
 }
 
+static void take_skipped(uint64_t skipped)
+{
+    static const struct {
+        enum side_skipped what;
+        const char *name;
+    } names[] = {
+        {SKIPPED_FAMILIES, "families and sizes of frees (ASANCOL_MISMATCHES=0)"},
+        {SKIPPED_RETURNS, "uses after return (ASANCOL_USE_AFTER_RETURN=0)"},
+        {SKIPPED_LEAKS, "leaks (ASANCOL_LEAKS is not 1)"},
+        {SKIPPED_FRAMES, "frames in a block, from another stack"},
+        {SKIPPED_SPARE, "blocks from a signal handler in the middle of an allocation"},
+    };
+    for (size_t i = 0; i < sizeof names / sizeof *names; i++)
+        if (skipped & names[i].what)
+            add(&unchecked.own, names[i].name);
+}
+
 static int open_where(const char *trace)
 {
     char path[PATH_MAX + 8];
@@ -70,6 +87,7 @@ void unchecked_take(const struct process *process)
     if (process->trace != NULL && from >= 0)
         close(from);
     text[length > 0 ? length : 0] = 0;
+    take_skipped(process->skipped);
     if (strcmp(text, unchecked.last) == 0)
         return;
     strcpy(unchecked.last, text);
@@ -77,6 +95,18 @@ void unchecked_take(const struct process *process)
         *end = 0;
         take_line(line);
     }
+}
+
+static int by_name(const void *left, const void *right)
+{
+    return strcmp(*(char *const *)left, *(char *const *)right);
+}
+
+/* The addresses of libraries, in whose order processes name them, are others in each run. */
+static void sort(struct names *names)
+{
+    if (names->count > 0)
+        qsort(names->names, names->count, sizeof *names->names, by_name);
 }
 
 static size_t count_of(const struct names *names)
@@ -97,6 +127,7 @@ bool unchecked_is_any(void)
 void unchecked_say(FILE *to)
 {
     size_t said = unchecked.own.count < MAX_SAID ? unchecked.own.count : MAX_SAID;
+    sort(&unchecked.own);
     for (size_t i = 0; i < said; i++)
         fprintf(to, "%s%s", i == 0 ? "" : ", ", unchecked.own.names[i]);
     if (unchecked_count() > said)
@@ -107,33 +138,26 @@ void unchecked_say(FILE *to)
                 libraries == 1 ? "y" : "ies");
 }
 
-static void say_names(const char *what, const struct names *names)
+static void say_names(const char *what, struct names *names)
 {
-    char *text = NULL;
-    size_t length = 0;
-    FILE *to = must(open_memstream(&text, &length));
+    sort(names);
     for (size_t i = 0; i < names->count; i++)
-        fprintf(to, "%s%s", i == 0 ? "" : ", ", names->names[i]);
+        say("asancol: %s: %s", what, names->names[i]);
     if (names->more > 0)
-        fprintf(to, " and %zu more", names->more);
-    if (fclose(to) != 0)
-        must(NULL);
-    if (names->count > 0)
-        say("asancol: %s: %s", what, text);
-    free(text);
+        say("asancol: %s: %zu more", what, names->more);
 }
 
 void unchecked_say_all(void)
 {
-    if (unchecked_count() > MAX_SAID)
-        say_names("not checked", &unchecked.own);
-    say_names("libraries of the system, not checked", &unchecked.system);
+    say_names("not checked", &unchecked.own);
+    say_names("library of the system, not checked", &unchecked.system);
 }
 
 /* Writes as many names as fit, and answers how many are left out. */
-static size_t put(FILE *to, const struct names *names, size_t most)
+static size_t put(FILE *to, struct names *names, size_t most)
 {
     size_t used = 0, i = 0;
+    sort(names);
     fputc('[', to);
     for (; i < names->count; i++) {
         used += 6 * strlen(names->names[i]) + 3; /* at most */

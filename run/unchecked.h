@@ -20,7 +20,7 @@ bool unchecked_is_any(void);
 /* Writes the first names, how many more there are, and how many libraries of the system. `unchecked_text` of
    asancol-report says the same of several runs. */
 void unchecked_say(FILE *to);
-/* Says all names, and those of libraries of the system. */
+/* Says all names, and those of libraries of the system: a line for each, in their order. */
 void unchecked_say_all(void);
 /* Writes all as fields of JSON, the first with a comma before it. */
 void unchecked_put(FILE *to);

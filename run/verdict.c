@@ -5,12 +5,14 @@
 #include <inttypes.h>
 #include <signal.h>
 #include <stdio.h>
+#include <stdlib.h>
 #include <string.h>
 #include <sys/wait.h>
 #include <unistd.h>
 
 #include "deaths.h"
 #include "end_line.h"
+#include "say.h"
 
 const char *signal_name(int number)
 {
@@ -68,7 +70,12 @@ enum {
     MAIN = 1 << 13,
     FILE_ALONE = 1 << 14,
     FINDINGS_LOST = 1 << 15,
-    LEAKS_MISSED = 1 << 16
+    LEAKS_MISSED = 1 << 16,
+    INSIDE = 1 << 17,
+    CLOSED_OFF = 1 << 18,
+    BY_OTHERS = 1 << 19,
+    BESIDE = 1 << 20,
+    CONTRADICTION = 1 << 21
 };
 
 enum answer { COMPLETE, UP_TO_THERE, BEFORE_MAIN, UNCHECKED, INCOMPLETE };
@@ -90,6 +97,8 @@ static const struct row rows[] = {
      "its checker was ended by CHECKER"},
     {NOT_CHECKED, ANY, 0, 0, INCOMPLETE,
      "its checker printed no verdict, and ended with status CHECKER"},
+    {ANY, ANY, INSIDE, 0, INCOMPLETE,
+     "died in the recorder, by SIGNAL: a mistake of asancol's, or of a wrong store into its memory"},
     {ANY, ANY, LIMIT | LEFT_OUT | ONE_SEGMENT, 0, INCOMPLETE,
      "reached the event limit: LEFT of ALL events were not recorded, since ASANCOL_SEGMENTS is 0"},
     {ANY, ANY, LIMIT | LEFT_OUT, 0, INCOMPLETE,
@@ -102,6 +111,8 @@ static const struct row rows[] = {
      "its recorder had no room for LOST of its findings"},
     {ANY, ANY, LEAKS_MISSED, 0, INCOMPLETE,
      "leaks of it were not looked for, as if a thread does not stop"},
+    {ANY, ANY, CONTRADICTION, 0, INCOMPLETE,
+     "what stands beside its trace contradicts itself, as after a wild store there"},
     {CUT_OFF, NONE, GONE | NONE_MISSING, CHECKS, UNCHECKED,
      "no code of it was compiled by asancol-cc"},
     {CUT_OFF, NONE, GONE | NONE_MISSING | REPLACED | MAIN, 0, COMPLETE,
@@ -110,12 +121,18 @@ static const struct row rows[] = {
      "ran another program, by an exec in a library"},
     {CUT_OFF, NONE, GONE | NONE_MISSING | MAIN, 0, UP_TO_THERE,
      "ended abruptly, HOW"},
+    {CUT_OFF, NONE, GONE | NONE_MISSING | BY_OTHERS, 0, UP_TO_THERE,
+     "ended abruptly, HOW, before main"},
     {CUT_OFF, NONE, GONE | NONE_MISSING, 0, BEFORE_MAIN,
      "ended abruptly, HOW, before main"},
     {NO_MEMORY, ANY, 0, 0, INCOMPLETE,
      "its checker had no more memory after EVENTS events"},
     {TOO_MANY, ANY, 0, 0, INCOMPLETE,
      "reached the event limit of its checker, after EVENTS events"},
+    {ANY, ANY, CLOSED_OFF | BAD_MISSING, ALL_CAME, INCOMPLETE,
+     "it has closed all its descriptors: MISSING"},
+    {ANY, LOST, CLOSED_OFF, ALL_CAME, INCOMPLETE,
+     "it has closed all its descriptors, and ASANCOL_SEGMENTS is 0"},
     {ANY, LOST, 0, ALL_CAME, INCOMPLETE,
      "its recording ended early"},
     {CUT_OFF | MALFORMED, NONE, BAD_MISSING, 0, INCOMPLETE,
@@ -128,10 +145,14 @@ static const struct row rows[] = {
      "it ended: MISSING"},
     {ANY, ANY, 0, ALL_CAME, INCOMPLETE,
      "its trace ended as FATE"},
+    {ANY, ANY, 0, BESIDE, INCOMPLETE,
+     "its findings and leaks are not known, since nothing stands beside its trace: CAUSE"},
     {ANY, ANY, 0, CHECKS, UNCHECKED,
      "no code of it was compiled by asancol-cc"},
     {ANY, SIGNAL, MAIN, 0, COMPLETE,
      "ended by SIGNAL"},
+    {ANY, SIGNAL, BY_OTHERS, 0, UP_TO_THERE,
+     "ended by SIGNAL before main"},
     {ANY, SIGNAL, 0, 0, BEFORE_MAIN,
      "ended by SIGNAL before main"},
     {ANY, ANY, 0, 0, COMPLETE,
@@ -189,7 +210,8 @@ static void put_checker(const struct process *process, char *room, size_t size)
 
 static void put_signal(const struct process *process, char *room, size_t size)
 {
-    snprintf(room, size, "%s", signal_name((int)process->signal));
+    uint64_t inside = process->side != NULL ? side_progress(process->side).inside : 0; /* also after it was lost */
+    snprintf(room, size, "%s", signal_name((int)(process->signal != 0 ? process->signal : inside)));
 }
 
 static void put_events(const struct process *process, char *room, size_t size)
@@ -214,6 +236,13 @@ static void put_lost(const struct process *process, char *room, size_t size)
     snprintf(room, size, "%" PRIu64, side_progress(process->side).findings_lost);
 }
 
+/* Why there is no side memory. */
+static void put_cause(const struct process *process, char *room, size_t size)
+{
+    const char *cause = process->trace != NULL ? "record with ASANCOL_WHERE=1" : "no memory came with it";
+    snprintf(room, size, "%s", process->side_error != 0 ? strerror(process->side_error) : cause);
+}
+
 static void put_fate(const struct process *process, char *room, size_t size)
 {
     snprintf(room, size, "%s", process->fate);
@@ -225,7 +254,7 @@ static const struct {
 } words[] = {
     {"HOW", put_how},       {"MISSING", put_missing}, {"CHECKER", put_checker}, {"SIGNAL", put_signal},
     {"EVENTS", put_events}, {"LEFT", put_left},       {"ALL", put_all},         {"FATE", put_fate},
-    {"LOST", put_lost},
+    {"LOST", put_lost},     {"CAUSE", put_cause},
 };
 
 /* Puts what a word stands for, or the word. */
@@ -279,6 +308,8 @@ static bool has_all(const struct process *process, unsigned fate)
     /* Who goes on with the next segment looks again for what was noted in this one. */
     if (ending != ENDING_SEGMENT && is_bad_missing(process))
         return false;
+    if (process->is_closed_off && ending != ENDING_NONE && ending != ENDING_LOST) /* what is good need not be there */
+        return (fate & CUT_OFF) && needed_of(process) <= process->events + 1;
     if (fate != NO_CLOSE)
         return fate == CLOSED;
     if (ending == ENDING_EXIT) /* threads may have gone on until the system ended them */
@@ -300,16 +331,38 @@ static bool is_replaced(const struct process *process)
     return false;
 }
 
+/* Whether the process does not run any more, or not this program: its connection may have ended since it has closed all
+   descriptors. */
+static bool is_over(struct process *process)
+{
+    int status;
+    process->was_replaced |= is_replaced(process);
+    return process->was_replaced || death_of(process->peer, &status) != DEATH_NONE;
+}
+
+bool verdict_is_of_others(int number)
+{
+    return number == SIGKILL || number == SIGTERM || number == SIGINT || number == SIGHUP || number == SIGQUIT;
+}
+
+/* Whether another process has ended it, as far as that was seen. */
+static bool is_death_by_others(const struct process *process)
+{
+    int status;
+    return death_of(process->peer, &status) == DEATH_SEEN && WIFSIGNALED(status)
+           && verdict_is_of_others(WTERMSIG(status));
+}
+
 /* Whether a call of the recorder's own has ended the process, or a child of vfork before its exec, as where a filter
    ends whoever makes it. */
-static bool has_stopped(const struct process *process)
+static bool has_stopped(struct process *process)
 {
     int status;
     if (process->side == NULL || process->ending == ENDING_SEGMENT)
         return false;
     struct side_progress progress = side_progress(process->side);
     if (process->ending != ENDING_NONE && process->ending != ENDING_SIGNAL)
-        return progress.starts != 0;
+        return progress.starts != 0 && (process->is_file || is_over(process)) && !is_death_by_others(process);
     if (progress.calls == 0 && progress.starts == 0)
         return false;
     if (process->ending == ENDING_SIGNAL)
@@ -335,15 +388,39 @@ static bool has_begun(const struct process *process)
     return process->side == NULL || side_progress(process->side).has_begun != 0;
 }
 
-static bool leaks_count;
-
-void verdict_counts_leaks(bool do_count)
+/* Whether another process has ended it, as a parent ends a child that it needs no more. Of SIGKILL only the number is
+   known. */
+static bool was_ended_by_others(const struct process *process)
 {
-    leaks_count = do_count;
+    if (process->side == NULL || process->reports + process->findings > 0)
+        return false;
+    if (process->ending == ENDING_SIGNAL)
+        return verdict_is_of_others((int)process->side->signal) && side_progress(process->side).sender != 0;
+    return is_death_by_others(process);
+}
+
+static bool leaks_count;
+static uint64_t not_wanted; /* enum side_skipped */
+
+void verdict_begin(bool counts_leaks, bool wants_mismatches)
+{
+    leaks_count = counts_leaks;
+    not_wanted = (uint64_t)(counts_leaks ? 0 : SKIPPED_LEAKS) | (wants_mismatches ? 0 : SKIPPED_FAMILIES);
 }
 
 /* No process comes so far. What says more is no memory of a recorder's. */
 #define MAX_LEFT_GOOD (UINT64_C(1) << 48)
+
+static void read_children(struct process *process)
+{
+    pid_t children[SIDE_CHILDREN];
+    size_t count = process->side != NULL ? side_children(process->side, children) : 0;
+    process->child_count = count;
+    if (count == 0)
+        return;
+    process->children = must(realloc(process->children, count * sizeof *children));
+    memcpy(process->children, children, count * sizeof *children);
+}
 
 /* Takes what the recorder says of its end, and of what the stream has. */
 static void read_side(struct process *process)
@@ -356,16 +433,28 @@ static void read_side(struct process *process)
     struct side_progress progress = side != NULL ? side_progress(side) : (struct side_progress){0};
     process->stated = progress.stated;
     process->left_good = progress.left_good <= MAX_LEFT_GOOD ? progress.left_good : 0;
-    process->findings = progress.findings < SIDE_FAULTS ? progress.findings : SIDE_FAULTS;
+    uint64_t entries = side != NULL ? side_entries(side) : 0; /* after the progress: both grow */
+    process->findings = progress.findings < entries ? progress.findings : entries;
     process->leaks = leaks_count ? 0 : progress.leaks < process->findings ? progress.leaks : process->findings;
     process->findings -= process->leaks;
     process->leaks_missed = progress.leaks_missed != 0;
+    process->skipped = progress.skipped & ~not_wanted;
+    process->used_again = progress.used_again < ADDRESS_END ? progress.used_again : ADDRESS_END;
     process->forks = progress.forks;
+    read_children(process);
+    process->is_closed_off = progress.closed_off != 0;
     process->becomes = progress.becomes != 0 && process->ending == ENDING_EXEC;
     process->of_parent = (int)progress.of_parent;
     process->of_parent_started = progress.of_parent_started;
     if (process->stated > process->events)
         process->stated = process->events;
+}
+
+/* Whether what its recorder says of it can't be: it writes an entry of the list before it counts a finding. */
+static bool contradicts_itself(const struct side *side)
+{
+    struct side_progress progress = side_progress(side);
+    return progress.needed == 0 || progress.leaks > progress.findings || progress.findings > side_entries(side);
 }
 
 static unsigned limit_of(const struct process *process)
@@ -376,11 +465,8 @@ static unsigned limit_of(const struct process *process)
 /* Of one that said nothing of its end. */
 static unsigned look_if_gone(struct process *process)
 {
-    int status;
-    process->was_replaced |= is_replaced(process);
-    if (process->was_replaced)
-        return GONE | REPLACED;
-    return death_of(process->peer, &status) != DEATH_NONE ? GONE : 0;
+    bool is_gone = is_over(process);
+    return (is_gone ? GONE : 0) | (process->was_replaced ? REPLACED : 0);
 }
 
 static unsigned facts_of(struct process *process, unsigned fate)
@@ -404,8 +490,14 @@ static unsigned facts_of(struct process *process, unsigned fate)
         facts |= look_if_gone(process);
     if (process->side != NULL && side_progress(process->side).findings_lost != 0)
         facts |= FINDINGS_LOST;
+    if (process->side != NULL && side_progress(process->side).inside != 0)
+        facts |= INSIDE;
     if (leaks_count && process->leaks_missed)
         facts |= LEAKS_MISSED;
+    facts |= process->is_closed_off ? CLOSED_OFF : 0;
+    facts |= was_ended_by_others(process) ? BY_OTHERS : 0;
+    if (process->side != NULL)
+        facts |= BESIDE | (contradicts_itself(process->side) ? CONTRADICTION : 0);
     facts |= process->is_file ? FILE_ALONE : 0;
     return facts | (process->has_checks ? CHECKS : 0) | (has_begun(process) ? MAIN : 0);
 }
@@ -439,6 +531,26 @@ static unsigned unheard_signal(const struct process *process)
     return is_seen ? (unsigned)WTERMSIG(status) : 0;
 }
 
+/* Whether the process may still say that it did not end so: an exec may fail, and it may go on. */
+static bool may_take_back(struct process *process)
+{
+    bool tries_exec = process->ending == ENDING_EXEC || side_progress(process->side).starts != 0;
+    return tries_exec && !is_over(process);
+}
+
+/* What is read from a file does not change any more; what is past the limit may still grow, and an event of a segment
+   may be left out as long as the process runs. How a process has died may be known only after its connection. */
+static bool is_settled(struct process *process, unsigned fate, unsigned facts)
+{
+    uint32_t ending = process->ending;
+    if (process->trace != NULL)
+        return true;
+    if (process->side == NULL)
+        return !(fate & CUT_OFF);
+    return !(facts & (LIMIT | OWN_CALL)) && ending != ENDING_NONE && ending != ENDING_SEGMENT
+           && !may_take_back(process);
+}
+
 static void judge(struct process *process)
 {
     read_side(process);
@@ -451,14 +563,12 @@ static void judge(struct process *process)
     process->is_abrupt = answer == UP_TO_THERE;
     process->is_cut_at_limit = row->holds & LIMIT;
     bool is_unheard = ending == ENDING_NONE && !(facts & REPLACED);
-    if (answer == UP_TO_THERE || (answer == BEFORE_MAIN && is_unheard))
+    if ((answer == UP_TO_THERE || answer == BEFORE_MAIN) && is_unheard)
         process->signal = unheard_signal(process);
     process->is_crash = is_crash(process->signal);
+    process->is_ignored = process->is_crash && ignores_deaths(process->parent);
     say_why(process, row->why);
-    /* What is read from a file does not change any more; what is past the limit may still grow, and an event of a
-       segment may be left out as long as the process runs. */
-    bool is_over = !(facts & LIMIT) && ending != ENDING_NONE && ending != ENDING_SEGMENT;
-    process->is_settled = process->side == NULL || process->trace != NULL || is_over;
+    process->is_settled = is_settled(process, fate, facts);
 }
 
 /* Whether a zero comes next: room that the recorder made in a file, and did not come to use. */

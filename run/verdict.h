@@ -6,8 +6,9 @@
 
 #include "processes.h"
 
-/* Leaks are findings as any other from now on, and are not only summed up. */
-void verdict_counts_leaks(bool do_count);
+/* Whether leaks are findings as any other, and are not only summed up; and whether a process that does not look for
+   mismatches of functions that allocate and free has to be named. */
+void verdict_begin(bool counts_leaks, bool wants_mismatches);
 /* Reads what its checker has printed, and judges. Before that, why may say why it was not checked. */
 void verdict_read(struct process *process);
 /* Judges again what was not settled: how it ended, and how many events were left out. True if this has changed
@@ -17,6 +18,8 @@ bool verdict_again(struct process *process);
 /* Says of one that is incomplete that it went on after the limit of events. */
 void verdict_blame_limit(struct process *process);
 
+/* Whether a signal of this number is of another process, and none of a mistake. */
+bool verdict_is_of_others(int number);
 /* "SIGTERM", or "signal 40". */
 const char *signal_name(int number);
 

@@ -58,9 +58,10 @@ _asancol_run() {
     esac
     if [[ $word == -* && -z $ended ]]; then
         mapfile -t COMPREPLY < <(compgen -W '--exitcode --error-exitcode --incomplete-exitcode --nothing-exitcode
-            --at-least --wait --timeout --json --sarif --junit --codequality --html --keep --log-file --live --source-root
-            --color --full-stacks --shadow --unchecked --quiet --verbose --leaks --suppressions --gen-suppressions
-            --baseline --quarantine --no-mismatches --full --preload --memory --limit --help --version --' -- "$word")
+            --at-least --wait --timeout --json --sarif --junit --codequality --html --keep --log-file --live --crashes
+            --source-root --color --full-stacks --shadow --unchecked --quiet --verbose --leaks --suppressions
+            --gen-suppressions --baseline --quarantine --no-mismatches --full --preload --memory --limit --help --version
+            --' -- "$word")
     else
         mapfile -t COMPREPLY < <(compgen -c -- "$word"; compgen -f -- "$word")
     fi

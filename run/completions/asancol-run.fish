@@ -45,6 +45,7 @@ complete -c asancol-run -n '_asancol_run_takes option' -l html -r -F -d 'a page 
 complete -c asancol-run -n '_asancol_run_takes option' -l keep -x -a '(__fish_complete_directories)' -d 'keeps the traces of processes with reports'
 complete -c asancol-run -n '_asancol_run_takes option' -l log-file -r -F -d 'where all lines go, not to standard error'
 complete -c asancol-run -n '_asancol_run_takes option' -l live -d 'reports of a process when it ends, not all at the end'
+complete -c asancol-run -n '_asancol_run_takes option' -l crashes -d 'crashes that a parent waited for, too'
 complete -c asancol-run -n '_asancol_run_takes option' -l source-root -x -a '(__fish_complete_directories)' -d 'show files under DIR by their paths from there'
 complete -c asancol-run -n '_asancol_run_takes option' -l color -x -a 'auto always never' -d 'colors: auto, always or never'
 complete -c asancol-run -n '_asancol_run_takes option' -l full-stacks -d 'print all frames of a stack, and whole names'

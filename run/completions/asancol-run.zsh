@@ -18,6 +18,7 @@ _arguments -S \
     '--keep=[keeps the traces of processes with reports]:folder:_files -/' \
     '--log-file=[where all lines go, not to standard error]:file:_files' \
     '--live[reports of a process when it ends, not all at the end]' \
+    '--crashes[crashes that a parent waited for, too]' \
     '--source-root=[show files under DIR by their paths from there]:folder:_files -/' \
     '--color=[colors: auto, always or never]:when:(auto always never)' \
     '--full-stacks[print all frames of a stack, and whole names]' \

@@ -5,12 +5,11 @@ import random
 import re
 import shutil
 import signal
-import subprocess
 import time
 from typing import Any, List
 
 from support import CC, REPORT, TESTS, Later, Suite, expect, expect_ran, finish, leave_out
-from testing.programs import NO_SETTINGS
+from testing.programs import NO_SETTINGS, call
 
 NOT_CHECKED = "; not checked: libplain.so"
 SEEN = f"1 ended abruptly{NOT_CHECKED}"
@@ -22,9 +21,9 @@ def build(compiler: str, folder: str, program: str) -> None:
     """Builds the program by this compiler, beside a library that is not recorded."""
     os.mkdir(folder)
     library = f"{folder}/libplain.so"
-    subprocess.run(["cc", "-shared", "-fPIC", f"{TESTS}/plain.c", "-o", library], check=True)
+    call(["cc", "-shared", "-fPIC", f"{TESTS}/plain.c", "-o", library], check=True)
     argv = [CC, "-g", "-O1", "-pthread", f"{TESTS}/abrupt.c", library, "-o", program]
-    subprocess.run(argv, check=True, env={**os.environ, "ASANCOL_CC": compiler})
+    call(argv, check=True, env={**os.environ, "ASANCOL_CC": compiler})
 
 
 # The library's calls are not seen.

@@ -9,11 +9,12 @@ from typing import List, NamedTuple, Sequence
 
 from asancol_report.results import CRASHES
 from support import REPORT, TESTS, TOP, Failure, Ran, Suite, expect, expect_ran
+from testing.programs import call
 
 ENDED = f"{TESTS}/ended.py"
 PAGE = "run/README.md"
 # What stands for something in a text.
-WORDS = re.compile(r"\b(HOW|MISSING|CHECKER|SIGNAL|EVENTS|LEFT|ALL|FATE|LOST)\b")
+WORDS = re.compile(r"\b(HOW|MISSING|CHECKER|SIGNAL|EVENTS|LEFT|ALL|FATE|LOST|CAUSE)\b")
 
 
 class Row(NamedTuple):
@@ -43,6 +44,8 @@ ENDS = [
     End("was ended by --timeout", test="lives.check_time_limit"),
     End("its checker was ended by CHECKER", test="lives.check_killed_checker"),
     End("its checker printed no verdict, and ended with status CHECKER", test="statuses.check_other_checker"),
+    End("died in the recorder, by SIGNAL: a mistake of asancol's, or of a wrong store into its memory",
+        "close=0 ending=3 signal=11 kill=11 inside=11"),
     End("reached the event limit: LEFT of ALL events were not recorded, since ASANCOL_SEGMENTS is 0",
         test="feeds.check_second_message"),
     End("reached the event limit: LEFT of ALL events were not recorded", "close=0 is_at_limit=1 left_out=3"),
@@ -52,22 +55,30 @@ ENDS = [
     End("its recorder had no room for LOST of its findings", "findings_lost=2"),
     End("leaks of it were not looked for, as if a thread does not stop", "leaks_missed=1", ["--leaks=yes"],
         test="leaks.check_stuck"),
+    End("what stands beside its trace contradicts itself, as after a wild store there", "findings=1"),
     End("no code of it was compiled by asancol-cc", f"{GONE} has_checks=0"),
     End("ran another program, by an exec in a library", "close=0 ending=0 exec=1", test="abrupt.check_spawns"),
     End("ran another program, by an exec in a library", "close=0 ending=0 exec=1 has_begun=0"),
     End("ended abruptly, HOW", GONE, test="abrupt.check_exits"),
-    End("ended abruptly, HOW, before main", f"{GONE} has_begun=0", test="unheard.check_constructor"),
+    End("ended abruptly, HOW, before main", f"{GONE} has_begun=0", test="unheard.check_killed"),
+    End("ended abruptly, HOW, before main", "close=0 ending=0 kill=10 has_begun=0", test="unheard.check_constructor"),
     End("its checker had no more memory after EVENTS events", "blocks=200", ["--memory", "1048576"]),
     End("reached the event limit of its checker, after EVENTS events", "events=11", ["--limit", "5"]),
+    End("it has closed all its descriptors: MISSING", "close=0 closed_off=1 needed=20", test="closed.check_ways"),
+    End("it has closed all its descriptors, and ASANCOL_SEGMENTS is 0", "close=0 ending=4 closed_off=1",
+        test="closed.check_one_segment"),
     End("its recording ended early", "close=0 ending=4"),
     End("ended abruptly, HOW: MISSING", f"{GONE} needed=20", test="abrupt.check_burst"),
     End("ended abruptly, as by SIGKILL, or an _exit or exec in a library, or still running",
         test="report.trace_of_a_killed_process"),
-    End("ended abruptly, HOW: what came last was not seen", f"{GONE} needed=0"),
+    End("ended abruptly, HOW: what came last was not seen", f"{GONE} beside=0"),
     End("it ended: MISSING", "noted=1"),
     End("its trace ended as FATE", "close=0 events=20", test="segments.check_incomplete"),
+    End("its findings and leaks are not known, since nothing stands beside its trace: CAUSE", "beside=0"),
     End("no code of it was compiled by asancol-cc", "has_checks=0"),
     End("ended by SIGNAL", "close=0 ending=3 signal=11 kill=11", test="whole.check_crash"),
+    End("ended by SIGNAL before main", "close=0 ending=3 signal=15 kill=15 has_begun=0 sender=1",
+        test="unheard.check_killed"),
     End("ended by SIGNAL before main", "close=0 ending=3 signal=11 kill=11 has_begun=0",
         test="unheard.check_constructor"),
     End("", "", ["--wait", "9"], test="whole.check_report"),
@@ -118,14 +129,18 @@ def check_each_has_a_test(suite: Suite, folder: str) -> None:
             expect(inspect.isfunction(getattr(importlib.import_module(module), name, None)), True, end.test)
 
 
+# The program of a peer, which nobody knows if nothing stands beside its trace.
+NAME = r"(?:ended|python3|\(unknown\))"
+
+
 def line_of(row: Row) -> str:
     """What asancol-run says of a process, as a pattern."""
     why = WORDS.sub(".+", re.escape(row.why))
     if row.answer == "up to there":
-        return f"ended: {why}: seen up to there\n"
+        return f"{NAME}: {why}: seen up to there\n"
     if row.answer == "complete":
-        return f"ended: complete{': ' if why else ''}{why}, 11 events, 0 reports\n"
-    return f"ended: INCOMPLETE: {why}\n"
+        return f"{NAME}: complete{': ' if why else ''}{why}, 11 events, 0 reports\n"
+    return f"{NAME}: INCOMPLETE: {why}\n"
 
 
 def check_end(suite: Suite, folder: str, row: Row, end: End) -> None:
@@ -136,8 +151,8 @@ def check_end(suite: Suite, folder: str, row: Row, end: End) -> None:
 
 
 def text_of(ran: Ran) -> str:
-    """What was said, without numbers of processes, and without that there was no report."""
-    return re.sub(r"process \d+", "process", re.sub(r"^asancol-run: .*\n", "", ran.err, flags=re.M))
+    """What was said, without numbers and names of processes, and without that there was no report."""
+    return re.sub(rf"process \d+ (\./)?{NAME}:", "process:", re.sub(r"^asancol-run: .*\n", "", ran.err, flags=re.M))
 
 
 def check_one_text(suite: Suite, folder: str, end: End) -> None:
@@ -151,6 +166,15 @@ def check_one_text(suite: Suite, folder: str, end: End) -> None:
     expect(bool(quoted), " crashed\n" in said, f"the last line of {end.words}")
     merged = suite.run_argv([REPORT, f"{folder}/x"])
     expect(merged.out, both.err, f"the text of the result of {end.words}")
+
+
+def check_late_death(suite: Suite, folder: str) -> None:
+    """A process may still run a little when its connection has ended."""
+    for status, words, text in (
+        (98, f"{GONE} beside=0", "ended abruptly, by SIGKILL: "),
+        (-signal.SIGTERM, "close=0 ending=3 signal=15 kill=15 has_begun=0 sender=1", "ended by SIGTERM before main: "),
+    ):
+        expect_ran(suite.run("-v", "--", ENDED, "late=1", *words.split(), ASANCOL_REPORT=REPORT), status, text)
 
 
 def check_crashes(suite: Suite, folder: str) -> None:
@@ -197,12 +221,12 @@ def check_end_lines(suite: Suite, folder: str) -> None:
     with open(f"{folder}/reads.c", "w", encoding="utf-8") as file:
         file.write(READS_LINES)
     argv = ["cc", f"-I{TOP}", f"{folder}/reads.c", f"{TOP}/run/end_line.c", "-o", f"{folder}/reads"]
-    subprocess.run(argv, check=True)
+    call(argv, check=True)
     for text, wanted in LINES.items():
         with open(f"{folder}/lines", "w", encoding="utf-8") as file:
             file.write(text)
         with open(f"{folder}/lines", encoding="utf-8") as file:
-            ran = subprocess.run([f"{folder}/reads"], stdin=file, stdout=subprocess.PIPE, text=True, check=True)
+            ran = call([f"{folder}/reads"], stdin=file, stdout=subprocess.PIPE, text=True, check=True)
         expect(ran.stdout, wanted + "\n", repr(text))
 
 
@@ -217,6 +241,7 @@ def tests(suite: Suite) -> None:
     suite.test("judge: files", check_files)
     suite.test("judge: the page", check_page)
     suite.test("judge: each row has a test", check_each_has_a_test)
+    suite.test("judge: a late death", check_late_death)
     suite.test("judge: crashes", check_crashes)
     suite.test("judge: end lines", check_end_lines)
     for row, end in zip(rows_of_program(), ENDS):

@@ -3,11 +3,11 @@
 import json
 import os
 import re
-import subprocess
 import xml.etree.ElementTree as xml
 from typing import Dict, List
 
 from support import CC, REPORT, Ran, Suite, expect, expect_in, expect_not_in, expect_ran
+from testing.programs import call
 
 PROGRAM = """
 #include <stdlib.h>
@@ -37,18 +37,18 @@ def make(folder: str, compiler: str, text: str = PROGRAM, *flags: str) -> str:
     with open(f"{folder}/leak.c", "w", encoding="utf-8") as file:
         file.write(text)
     argv = [CC, "-g", "-O1", "-w", *flags, "leak.c", "-o", "leak"]
-    subprocess.run(argv, cwd=folder, env={**os.environ, "ASANCOL_CC": compiler}, check=True)
+    call(argv, cwd=folder, env={**os.environ, "ASANCOL_CC": compiler}, check=True)
     return f"{folder}/leak"
 
 
 def check_forms(suite: Suite, folder: str, compiler: str) -> None:
     program = make(folder, compiler)
     ran = run_it(suite, "--", program, "two")
-    expect_ran(ran, 0, "asancol: no reports; 1 process, ", "all complete\n" + SUMMED, absent=["ERROR", "SUMMARY"])
+    expect_ran(ran, 0, "asancol: no reports; 1 process, ", "\n" + SUMMED, absent=["ERROR", "SUMMARY"])
     ran = run_it(suite, "--leaks=no", "--", program, "two")
-    expect_ran(ran, 0, "asancol: no reports; 1 process, ", absent=["leak"])
+    expect_ran(ran, 0, "asancol: no reports; 1 process, ", absent=["leaks"])
     ran = run_it(suite, "--quiet", "--", program, "two")
-    expect((ran.status, ran.err), (0, ""), "quiet")
+    expect((ran.status, "ERROR" in ran.err), (0, False), "quiet")
     ran = run_it(suite, "--leaks=yes", "--", program, "two")
     expect_ran(ran, 99, "ERROR: asancol: detected memory leaks (by the recorder)\n",
                "\nDirect leak of 300 byte(s) in 3 object(s) allocated from:\n    #0 0x", " in lose ",
@@ -116,6 +116,10 @@ def check_several(suite: Suite, folder: str, compiler: str) -> None:
     texts = [text.split("asancol: 5 reports")[0] for text in (ran.err, merged.out)]
     first, again = (re.findall("==ERROR: .*\n.* allocated from:", text) for text in texts)
     expect(first, again, "merged")
+    for name, words in (("one", [program]), ("two", ["sh", "-c", f"{program}; {program} two"])):
+        run_it(suite, f"--json={folder}/{name}-sum.json", "--", *words)
+    merged = suite.run_argv([REPORT, f"{folder}/one-sum.json", f"{folder}/two-sum.json"])
+    expect_in(merged.out, "asancol: leaks: 970 bytes in 11 blocks at 3 to ")
 
 
 STUCK = """

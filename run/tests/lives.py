@@ -7,7 +7,8 @@ import subprocess
 import time
 from typing import List
 
-from support import RUN, Failure, Ran, Suite, expect, expect_ran, finish, leave_out, wait_until
+from support import RUN, Failure, Ran, Suite, expect, expect_in, expect_ran, finish, leave_out, wait_until
+from testing.programs import PATIENCE, Started, call, killed_after
 
 
 def check_orphan(suite: Suite, folder: str, way: str) -> None:
@@ -48,7 +49,7 @@ def check_inherited(suite: Suite, folder: str, line: str, status: int, of: str) 
     words = line.replace("RUN", RUN).replace("PROGRAM", suite.program)
     with open(f"{folder}/err", "wb") as error:  # no pipe: what is left would keep it open
         command = [*of.split(), "bash", "-c", f"{words} > /dev/null"]
-        ran = subprocess.run(command, env=suite.environment(), stderr=error, check=False, timeout=60)
+        ran = call(command, env=suite.environment(), stderr=error, check=False, timeout=60)
     with open(f"{folder}/err", encoding="utf-8") as error:
         text = error.read()
     expect((ran.returncode, "processes of the command still run" in text), (status, "--wait" in line), text)
@@ -106,7 +107,7 @@ def check_huge_pages(suite: Suite, folder: str) -> None:
 def check_term_during_report(suite: Suite, folder: str) -> None:
     """A signal is passed on, and what was found is still reported."""
     started = suite.start("--", suite.program, "past_and_sleeps", "30")
-    expect(started.stdout.readline() if started.stdout else "", "ready\n", "the program")
+    expect(started.line(), "ready\n", "the program")
     started.send_signal(signal.SIGTERM)
     expect_ran(finish(started), 99, "the report")
 
@@ -114,7 +115,7 @@ def check_term_during_report(suite: Suite, folder: str) -> None:
 def check_signal(suite: Suite, folder: str, number: int, way: str, status: int, text: str) -> None:
     started = suite.start("-v", "--", suite.program, way, "30")
     if way != "sleeps":
-        expect(started.stdout.readline() if started.stdout else "", "ready\n", "the program")
+        expect(started.line(), "ready\n", "the program")
     else:
         time.sleep(0.5)
     started.send_signal(number)
@@ -130,7 +131,7 @@ def check_timeout_program(suite: Suite, folder: str) -> None:
 def check_ignored_signals(suite: Suite, folder: str) -> None:
     """What was ignored before stays so, as under nohup."""
     argv = ["sh", "-c", f"trap '' HUP; exec {RUN} -- sh -c '{suite.program} sleeps 0.5; exit 5'"]
-    started = subprocess.Popen(argv, env=suite.environment(), stderr=subprocess.PIPE, text=True)
+    started = Started(argv, env=suite.environment(), stderr=subprocess.PIPE, text=True)
     time.sleep(0.3)
     started.send_signal(signal.SIGHUP)
     expect_ran(finish(started), 5)
@@ -187,19 +188,18 @@ def at_terminal(suite: Suite, argv: List[str], typed: bytes, after: float, **set
     child, terminal = pty.fork()
     if child == 0:
         os.execve(argv[0], argv, suite.environment(**{"TERM": "xterm", **settings}))
-    time.sleep(after)
-    os.write(terminal, typed)
     seen = b""
-    try:
-        while True:
-            piece = os.read(terminal, 4096)
-            if not piece:
-                break
-            seen += piece
-    except OSError:
-        pass  # the terminal has no other end any more
-    os.close(terminal)
-    return Ran(os.waitstatus_to_exitcode(os.waitpid(child, 0)[1]), "", seen.decode())
+    with killed_after(child, PATIENCE):
+        time.sleep(after)
+        os.write(terminal, typed)
+        try:
+            while piece := os.read(terminal, 4096):
+                seen += piece
+        except OSError:
+            pass  # the terminal has no other end any more
+        os.close(terminal)
+        status = os.waitpid(child, 0)[1]
+    return Ran(os.waitstatus_to_exitcode(status), "", seen.decode())
 
 
 def check_interrupt_at_terminal(suite: Suite, folder: str) -> None:
@@ -246,9 +246,9 @@ def child_of(number: int) -> int:
 def check_stop(suite: Suite, folder: str) -> None:
     """SIGTSTP stops both, and SIGCONT lets both go on. In a process group that a shell looks after."""
     argv = [RUN, "--", suite.program, "handles", "1.5"]
-    started = subprocess.Popen(argv, env=suite.environment(), text=True, preexec_fn=os.setpgrp,
-                               stdout=subprocess.PIPE, stderr=subprocess.PIPE)
-    expect(started.stdout.readline() if started.stdout else "", "ready\n", "the program")
+    started = Started(argv, env=suite.environment(), text=True, preexec_fn=os.setpgrp,
+                      stdout=subprocess.PIPE, stderr=subprocess.PIPE)
+    expect(started.line(), "ready\n", "the program")
     command = child_of(started.pid)
     started.send_signal(signal.SIGTSTP)
     wait_until(lambda: state_of(started.pid) == "T" and state_of(command) == "T", "the stop")
@@ -261,7 +261,7 @@ def check_hub_is_killed(suite: Suite, folder: str) -> None:
     """The command runs on, and ends as usual."""
     mark = f"{folder}/status"
     started = suite.start("--", "sh", "-c", f"{suite.program} handles 0.8; echo $? > {mark}", TMPDIR=folder)
-    expect(started.stdout.readline() if started.stdout else "", "ready\n", "the program")
+    expect(started.line(), "ready\n", "the program")
     started.kill()
     started.wait()
     wait_until(lambda: os.path.exists(mark) and os.path.getsize(mark) > 0, "the end of the command")
@@ -295,6 +295,16 @@ def check_short_for_ever(suite: Suite, folder: str) -> None:
         raise Failure("it has waited")
 
 
+def check_few_descriptors(suite: Suite, folder: str) -> None:
+    """However few there may be, a run ends: it is whole, or says why not, and names a limit under which none can be."""
+    for most in range(6, 17):
+        ran = suite.run_argv(["sh", "-c", f"ulimit -n {most}; exec {RUN} -- {suite.program} past"], TMPDIR=folder)
+        said = {99: "", 98: "INCOMPLETE: ", 125: f"too few descriptors: ulimit -n allows {most}\n"}
+        expect_in(ran.err + ran.out, said.get(ran.status, f"status {ran.status}"))
+        expect(ran.status == 125, most < 10, f"whether {most} are too few: {ran}")
+        expect(os.listdir(folder), [], f"what is left with {most}")
+
+
 def check_silent_peer(suite: Suite, folder: str) -> None:
     """One that connects and sends nothing does not hold the end up."""
     line = (
@@ -324,7 +334,7 @@ def check_standard_streams(suite: Suite, folder: str) -> None:
     """The command has its own standard input, output and error."""
     line = f"cat; echo error >&2; {suite.program} sound"
     environment = suite.environment()
-    ran = subprocess.run(
+    ran = call(
         [RUN, "-q", "--", "sh", "-c", line], input=b"input\n", env=environment, capture_output=True, check=False
     )
     expect((ran.returncode, ran.stdout, ran.stderr), (0, b"input\nsound\n", b"error\n"), "streams")
@@ -372,6 +382,7 @@ def tests(suite: Suite) -> None:
     suite.test("400 processes at once", check_crowd, 400, 4096)
     suite.test("200 processes with reports, 64 descriptors", check_crowd_with_reports)
     suite.test("short for ever", check_short_for_ever)
+    suite.test("few descriptors", check_few_descriptors)
     suite.test("silent peer", check_silent_peer)
     suite.test("garbage", check_garbage)
     for closing, status in (("<&-", 6), (">&-", 5), ("2>&-", 3), ("<&- >&- 2>&-", 0), ("", 7)):

@@ -2,9 +2,9 @@
 
 import json
 import os
-import subprocess
 
 from support import CC, REPORT, Ran, Suite, expect, expect_ran
+from testing.programs import call
 
 MISTAKES = r"""
 #include <malloc.h>
@@ -40,7 +40,7 @@ def built(folder: str) -> str:
     program = f"{folder}/mistakes"
     with open(f"{program}.c", "w", encoding="utf-8") as file:
         file.write(MISTAKES)
-    subprocess.run([CC, "-g", "-fno-builtin", f"{program}.c", "-o", program], check=True)
+    call([CC, "-g", "-fno-builtin", f"{program}.c", "-o", program], check=True)
     return program
 
 

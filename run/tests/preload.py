@@ -3,15 +3,16 @@
 import importlib.util
 import os
 import shutil
-import subprocess
 import sys
 import sysconfig
 
 from support import CC, REPORT, RUN, TOP, Suite, compilers_there, expect, expect_ran, leave_out, write_text
+from testing.programs import call
 
 PRELOADED = "libasancol_preload.so"
 HOST = f"{TOP}/recorder/tests/preload_host.c"
 MODULE = f"{TOP}/recorder/tests/preload_module.c"
+OF_SYSTEM = "/usr/libexec"
 
 EXTENSION = """
 #define PY_SSIZE_T_CLEAN
@@ -71,9 +72,9 @@ if __name__ == "__main__":
 
 
 def build(folder: str, compiler: str) -> None:
-    subprocess.run([compiler, "-g", "-O1", "-pthread", HOST, "-o", "host"], cwd=folder, check=True)
-    subprocess.run([CC, "-g", "-O1", "-shared", "-fPIC", MODULE, "-o", "module.so"], cwd=folder, check=True,
-                   env={**os.environ, "ASANCOL_CC": compiler})
+    call([compiler, "-g", "-O1", "-pthread", HOST, "-o", "host"], cwd=folder, check=True)
+    call([CC, "-g", "-O1", "-shared", "-fPIC", MODULE, "-o", "module.so"], cwd=folder, check=True,
+         env={**os.environ, "ASANCOL_CC": compiler})
 
 
 def check_module(suite: Suite, folder: str, compiler: str) -> None:
@@ -88,6 +89,14 @@ def check_module(suite: Suite, folder: str, compiler: str) -> None:
     expect_ran(suite.run(*over, cwd=folder), 98, words)
     expect_ran(suite.run("--preload", "--unchecked=error", *good, cwd=folder), 98, "; not checked: host\n")
     expect_ran(suite.run("--preload", "--", "./host", cwd=folder), 98, "NOTHING WAS RECORDED")
+
+
+def check_system(suite: Suite, folder: str, compiler: str) -> None:
+    """A program that only other programs of the system start is of the system, as libraries are."""
+    build(folder, compiler)
+    line = f"mount --bind {folder} {OF_SYSTEM} && exec {RUN} --preload -- {OF_SYSTEM}/host ./module.so read"
+    ran = suite.run_argv(["unshare", "-rm", "sh", "-c", line], cwd=folder)
+    expect_ran(ran, 0, "; all complete; not checked: 1 library of the system\n")
 
 
 def check_processes(suite: Suite, folder: str, compiler: str) -> None:
@@ -107,8 +116,8 @@ def check_own_programs(suite: Suite, folder: str, compiler: str) -> None:
     """A program of asancol-cc has what it has without the option."""
     argv = [CC, "-g", f"{TOP}/examples/bug.c", "-o"]
     environment = {**os.environ, "ASANCOL_CC": compiler}
-    subprocess.run([*argv, f"{folder}/bug"], check=True, env=environment)
-    subprocess.run([*argv, f"{folder}/static", "-static"], check=True, env=environment)
+    call([*argv, f"{folder}/bug"], check=True, env=environment)
+    call([*argv, f"{folder}/static", "-static"], check=True, env=environment)
     for name in ("bug", "static"):
         said = []
         for option in ((), ["--preload"]):
@@ -167,9 +176,14 @@ def check_python(suite: Suite, folder: str, compiler: str) -> None:
 
 
 def tests(suite: Suite) -> None:
+    can_mount = os.path.isdir(OF_SYSTEM) and suite.run_argv(["unshare", "-rm", "true"]).status == 0
+    if not can_mount:
+        leave_out(f"a program of the system: unshare cannot make namespaces, or {OF_SYSTEM} is not there")
     for compiler in compilers_there():
         suite.test(f"preload, {compiler}", check_module, compiler)
         suite.test(f"preload, processes, {compiler}", check_processes, compiler)
+        if can_mount:
+            suite.test(f"preload, program of the system, {compiler}", check_system, compiler)
         suite.test(f"preload, programs of asancol-cc, {compiler}", check_own_programs, compiler)
         if has_python():
             suite.long_test(f"preload, Python, {compiler}", check_python, compiler)

@@ -52,6 +52,14 @@ static int child(char **argv)
     return WEXITSTATUS(status);
 }
 
+/* The same in a process that has as many descriptors as it may have. */
+static int child_of_full(char **argv)
+{
+    while (open("/dev/null", O_RDONLY) >= 0)
+        ;
+    return child(argv);
+}
+
 static int aborts(char **argv)
 {
     int status;
@@ -180,7 +188,8 @@ static const struct {
     const char *name;
     int (*run)(char **argv);
 } ways[] = {
-    {"sound", sound}, {"past", past}, {"child", child}, {"forks_unseen", forks_unseen},
+    {"sound", sound}, {"past", past}, {"child", child}, {"child_of_full", child_of_full},
+    {"forks_unseen", forks_unseen},
     {"aborts", aborts}, {"execs", execs}, {"many", many},
     {"sleeps", sleeps}, {"past_and_sleeps", past_and_sleeps}, {"orphan", orphan}, {"daemon", becomes_daemon},
     {"handles", handles}, {"ignores", ignores}, {"kills_itself", kills_itself},

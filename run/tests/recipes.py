@@ -8,6 +8,7 @@ import subprocess
 from typing import List
 
 from support import CC, REPORT, RUN, TOP, Suite, expect, expect_ran, leave_out
+from testing.programs import call
 
 SOURCE = """#include <stdlib.h>
 int main(void) { volatile char *block = malloc(8); block[WHERE] = 1; free((void *)block); return 0; }
@@ -100,8 +101,8 @@ def check_make(suite: Suite, folder: str) -> None:
                                                                                                     suite.program))
     environment = suite.environment()
     argv = [RUN, "--", "make", "-s", "-j4"]
-    ran = subprocess.run(argv, cwd=folder, env=environment, stderr=subprocess.PIPE, stdout=subprocess.PIPE,
-                         check=False)
+    ran = call(argv, cwd=folder, env=environment, stderr=subprocess.PIPE, stdout=subprocess.PIPE,
+               check=False)
     expect((ran.returncode, ran.stdout.count(b"sound")), (0, 8), "make")
     expect(b"8 processes, 16 events; all complete" in ran.stderr, True, ran.stderr.decode())
 

@@ -6,9 +6,9 @@ usage: segmented.py [--files] WORD..
 Each word is a segment, in the order in which they are sent: its number, from 1, and letters. With `b` it has two bad
 stores. With `e` the process ends in it, and else it goes on in the next one. With `o` it has no close, with `l` an
 event was left out, with `h` its connection stays until the end, with `t` its side memory says only later how it ended,
-and with `k` SIGKILL ends the process there. The word `exec` begins another program in the same process, `empty` is a
-connection on which nothing is sent, and `wait` waits until a signal comes. With --files the traces are left in the
-folder of the hub, as by a process that can't connect.
+with `r` freed memory came again after as many MB as its number, and with `k` SIGKILL ends the process there. The word
+`exec` begins another program in the same process, `empty` is a connection on which nothing is sent, and `wait` waits
+until a signal comes. With --files the traces are left in the folder of the hub, as by a process that can't connect.
 
 A segment has a malloc, which the snapshots of all but the first one have, and ten loads.
 """
@@ -49,7 +49,7 @@ def side_of(word: str, number: int, started: int) -> side.Parts:
     ending = 0 if "k" in word or "t" in word else ending_of(word)
     return side.side(process=os.getpid(), started=started, ending=ending, segment=number, stated=int(number > 1),
                       events=1 + LOADS, left_out=int("l" in word), is_at_limit="l" in word, needed=1,
-                      quarantine=1 << 28, argv=["./segmented", *sys.argv[1:]])
+                      used_again=number * 1000000 if "r" in word else 0, argv=["./segmented", *sys.argv[1:]])
 
 
 def connect() -> socket.socket:

@@ -6,7 +6,6 @@ import os
 import re
 import shutil
 import signal
-import subprocess
 from typing import Any, Dict, List, NamedTuple, Sequence, Tuple
 
 from testing import reports, side
@@ -14,6 +13,7 @@ from abrupt import killed
 from support import (
     CC, REPORT, RUN, SEGMENTED, TOP, Later, Ran, Suite, expect, expect_in, expect_not_in, expect_ran, finish, wait_until
 )
+from testing.programs import call
 
 BAD = "heap-buffer-overflow: store of 1 byte (2 times, 1 process)"
 SEEN = "all complete, 1 ended abruptly"
@@ -34,6 +34,17 @@ def check_complete(suite: Suite, folder: str) -> None:
     expect_ran(run_peer(suite, f"{many} 40e"), 0, "complete, 401 events in 40 segments, 0 reports", "; 1 process, ")
     expect_ran(run_peer(suite, "1t 2te"), 0, "complete, 21 events in 2 segments", "1 process, 21 events")
     expect_ran(run_peer(suite, "1e"), 0, "complete, 11 events, 0 reports")
+
+
+def check_used_again(suite: Suite, folder: str) -> None:
+    """That freed memory came again is said of the first segment in which it did, and once."""
+    path = f"{folder}/result"
+    for words in ("1 2r 3re", "3re 2r 1", "1 2r 3e"):
+        ran = run_peer(suite, words, "--json", path)
+        expect_ran(ran, 0, "./segmented: handed out freed memory again after 2.0 MB of blocks, so ", absent=["so did"])
+        with open(path, encoding="utf-8") as file:
+            process = json.loads(file.read().splitlines()[1])
+        expect((process["segments"], process["used_again"]), (3, 2000000), words)
 
 
 INCOMPLETE = {
@@ -277,9 +288,11 @@ CASES: Dict[str, Tuple[List[Trace], List[str], str]] = {
                                         ["a.trace"], "1 process, 18 events; 1 INCOMPLETE"),
     "an older file of that name": ([FIRST._replace(ending=1), Trace("a.segment-002.trace", started=0)], ["a.trace"],
                                    "1 process, 9 events; all complete"),
-    "without side files": (WITHOUT_SIDES, ["a.trace"], "1 process, 18 events; all complete"),
+    "without side files": (WITHOUT_SIDES, ["a.trace"],
+                           "INCOMPLETE: segment 1: its findings and leaks are not known, since nothing stands beside "
+                           "its trace: record with ASANCOL_WHERE=1"),
     "without side files, one missing": ([*WITHOUT_SIDES[:1], Trace("a.segment-003.trace", started=0)], ["a.trace"],
-                                        "INCOMPLETE: its next segment did not come, and later ones did"),
+                                        "1 process, 18 events; 1 INCOMPLETE"),
 }
 
 
@@ -324,7 +337,7 @@ def check_older_results(suite: Suite, folder: str) -> None:
 def build(compiler: str, program: str) -> None:
     """Builds the recorder's program for this, by this compiler."""
     argv = [CC, "-g", "-O1", "-pthread", f"{TOP}/recorder/tests/segments.c", "-o", program]
-    subprocess.run(argv, check=True, env={**os.environ, "ASANCOL_CC": compiler})
+    call(argv, check=True, env={**os.environ, "ASANCOL_CC": compiler})
 
 
 def check_recorded(suite: Suite, folder: str, program: str) -> None:
@@ -403,6 +416,7 @@ def tests(suite: Suite) -> None:
         if suite.run_argv(["unshare", "-rn", "true"]).status == 0:
             suite.test(f"{compiler} segments, recorded files", check_recorded_files, program)
     suite.test("segments, complete", check_complete)
+    suite.test("segments, used again", check_used_again)
     for words, why in INCOMPLETE.items():
         suite.test(f"segments {words}", check_incomplete, words, why)
     suite.test("segments, others", check_others)

@@ -15,6 +15,7 @@ from typing import Any, Callable, Dict, List, NamedTuple, Optional
 from support import (
     CC, PATIENCE, TESTS, TOP, Failure, Suite, expect, expect_in, leave_out, wait_until, write_text,
 )
+from testing.programs import Started, call
 
 EXAMPLES = f"{TOP}/examples/service"
 LISTEN = f"{TOP}/listen/asancol-listen"
@@ -51,7 +52,7 @@ class Service:
         os.makedirs(self.folder, exist_ok=True)
         argv = [LISTEN, *options, self.socket, self.folder, *(command or [suite.asancol, "check", "--live", "-"])]
         before = self.made_at()
-        self.program = subprocess.Popen(argv, env=suite.environment(), stderr=subprocess.PIPE, text=True)
+        self.program = Started(argv, env=suite.environment(), stderr=subprocess.PIPE, text=True)
         wait_until(lambda: self.program.poll() is not None or self.made_at() not in (0, before), "the socket")
 
     def made_at(self) -> int:
@@ -68,24 +69,27 @@ class Service:
 
     def start(self, *argv: str, ends: bool = True, **settings: str) -> "subprocess.Popen[bytes]":
         environment = self.suite.environment(**{"ASANCOL_SOCKET": self.socket, **settings})
-        program = subprocess.Popen(argv, env=environment, stdout=subprocess.DEVNULL, stderr=subprocess.DEVNULL)
+        program = Started(argv, env=environment, stdout=subprocess.DEVNULL, stderr=subprocess.DEVNULL)
         if ends:
             program.wait(PATIENCE)
         return program
 
     def connect(self, data: bytes = b"") -> socket.socket:
         peer = socket.socket(socket.AF_UNIX)
+        peer.settimeout(PATIENCE)
         peer.connect(self.socket)
         peer.sendall(data)
         return peer
 
     def results(self) -> List[Result]:
         """What has been printed, in the order in which the processes connected."""
+        end = time.monotonic() + PATIENCE
         while True:
             try:
                 return [result_of(self.folder, name) for name in sorted(os.listdir(self.folder))]
-            except FileNotFoundError:
-                pass  # it has got its last name
+            except FileNotFoundError:  # it has got its last name
+                if time.monotonic() > end:
+                    raise
 
     def of_process(self, number: int) -> Result:
         """Waits for the result of a process."""
@@ -152,7 +156,7 @@ def check_threads(suite: Suite, folder: str) -> None:
     """A process has a close if it ends in its last thread. What was joined may still be on its way out."""
     program = f"{folder}/threads"
     for flags in ((), ("-static",)):
-        subprocess.run([CC, "-g", "-pthread", *flags, f"{TESTS}/threads.c", "-o", program], check=True)
+        call([CC, "-g", "-pthread", *flags, f"{TESTS}/threads.c", "-o", program], check=True)
         service = Service(suite, f"{folder}/threads{len(flags)}")
         for name, end in (("alone", "closed"), ("joined", "closed"), ("first_has_ended", "closed"),
                           ("detached", "no-close"), ("cloned", "no-close")):
@@ -250,7 +254,7 @@ def check_strangers(suite: Suite, folder: str) -> None:
     os.mkdir(results)
     line = f"sleep 0.1 & exec {LISTEN} {folder}/socket {results} {suite.asancol} check -"
     with open("/dev/full", "wb") as full:
-        program = subprocess.Popen(["sh", "-c", line], env=suite.environment(), stderr=full)
+        program = Started(["sh", "-c", line], env=suite.environment(), stderr=full)
     wait_until(lambda: os.path.exists(f"{folder}/socket"), "the socket")
     os.rename(results, f"{folder}/moved")
     for _ in range(2):
@@ -271,7 +275,7 @@ def check_closed(suite: Suite, folder: str) -> None:
     os.mkdir(results)
     command = f"sh -c 'true >&2 && exec {suite.asancol} check -'"
     line = f"exec {LISTEN} {folder}/socket {results} {command} <&- >&- 2>&-"
-    programs = [subprocess.Popen(["sh", "-c", line], env=suite.environment()) for _ in range(6)]
+    programs = [Started(["sh", "-c", line], env=suite.environment()) for _ in range(6)]
     wait_until(lambda: sum(it.poll() is None for it in programs) == 1, "the end of all but one")
     expect(sorted(it.poll() or 0 for it in programs), [0, 1, 1, 1, 1, 1], "statuses")
     suite.run_argv([suite.program, "past"], ASANCOL_SOCKET=f"{folder}/socket")
@@ -349,7 +353,7 @@ def check_mode_of_serve(suite: Suite, folder: str) -> None:
     line = f"import socket; socket.socket(socket.AF_UNIX).connect('{folder}/socket')"
     for mask, refused in ((0o022, True), (0o000, False)):
         argv = [suite.asancol, "serve", "--count", "1", "--ready", f"{folder}/ready", f"{folder}/socket"]
-        program = subprocess.Popen(argv, stdout=subprocess.DEVNULL, umask=mask)
+        program = Started(argv, stdout=subprocess.DEVNULL, umask=mask)
         wait_until(lambda: os.path.exists(f"{folder}/ready"), "the socket")
         ran = suite.run_argv(["setpriv", "--reuid=65534", "--regid=65534", "--clear-groups", "python3", "-c", line])
         expect("PermissionError" in ran.err, refused, ran.err)
@@ -367,7 +371,7 @@ def install_units(suite: Suite, prefix: str, root: str = "") -> str:
     os.makedirs(f"{root}{prefix}/bin")
     shutil.copy(suite.asancol, f"{root}{prefix}/bin")
     os.chmod(f"{root}{prefix}/bin/asancol", 0o755)
-    subprocess.run(["make", "-s", "-C", TOP, "install-units", f"PREFIX={prefix}", f"DESTDIR={root}"], check=True)
+    call(["make", "-s", "-C", TOP, "install-units", f"PREFIX={prefix}", f"DESTDIR={root}"], check=True)
     return f"{root}{prefix}/lib/systemd/system"
 
 
@@ -415,7 +419,7 @@ def check_socket_activate(suite: Suite, folder: str) -> None:
     command = ["sh", "-c", f"exec {unit['ExecStart'][0]} >> {results}"]
     argv = ["systemd-socket-activate", "--accept", "--inetd", f"--listen={listen}", *command]
     nothing = subprocess.DEVNULL
-    program = subprocess.Popen(argv, env=suite.environment(), stdout=nothing, stderr=nothing)
+    program = Started(argv, env=suite.environment(), stdout=nothing, stderr=nothing)
     wait_until(lambda: os.path.exists(listen), "the socket")
     for word in ("sound", "past"):
         suite.run_argv([suite.program, word], ASANCOL_SOCKET=listen)
@@ -460,7 +464,7 @@ def boot(folder: str, units: str) -> None:
     argv = [*CONTAINER, f"--bind={folder}{PREFIX}:{PREFIX}", *mounts, "--boot", "systemd.firstboot=no",
              "systemd.wants=probe.service"]
     nothing = subprocess.DEVNULL
-    subprocess.run(argv, stdin=nothing, stdout=nothing, stderr=nothing, check=True, timeout=PATIENCE)
+    call(argv, stdin=nothing, stdout=nothing, stderr=nothing, check=True, timeout=PATIENCE)
 
 
 def check_systemd(suite: Suite, folder: str) -> None:
@@ -496,15 +500,15 @@ def calls_of_sets(line: str) -> List[str]:
         if not word.startswith("@"):
             calls.append(word)
             continue
-        shown = subprocess.run(["systemd-analyze", "syscall-filter", word], stdout=subprocess.PIPE, check=True)
+        shown = call(["systemd-analyze", "syscall-filter", word], stdout=subprocess.PIPE, check=True)
         lines = [it.strip() for it in shown.stdout.decode().splitlines()[1:]]
         waiting += [it for it in lines if it and not it.startswith("#")]
     return calls
 
 
 def numbers_of_calls() -> Dict[str, int]:
-    text = subprocess.run(["cc", "-E", "-dM", "-include", "asm/unistd_64.h", "-x", "c", os.devnull],
-                          stdout=subprocess.PIPE, text=True, check=True).stdout
+    text = call(["cc", "-E", "-dM", "-include", "asm/unistd_64.h", "-x", "c", os.devnull],
+                stdout=subprocess.PIPE, text=True, check=True).stdout
     return {name: int(number) for name, number in re.findall(r"#define __NR_(\w+) (\d+)$", text, re.M)}
 
 
@@ -551,11 +555,11 @@ def check_filter(suite: Suite, folder: str) -> None:
         for way, before in (("with", apply), ("without", None)):
             with open(name, "rb") as given:
                 argv = unit["ExecStart"][0].split()
-                done = subprocess.run(argv, stdin=given, capture_output=True, check=False, preexec_fn=before)
+                done = call(argv, stdin=given, capture_output=True, check=False, preexec_fn=before)
             ran[way] = (done.returncode, done.stdout, done.stderr)
         expect(ran["with"], ran["without"], name)
     mount = ["mount", "-t", "tmpfs", "none", folder]
-    refused = subprocess.run(mount, stderr=subprocess.DEVNULL, check=False, preexec_fn=apply)
+    refused = call(mount, stderr=subprocess.DEVNULL, check=False, preexec_fn=apply)
     expect(refused.returncode, -signal.SIGSYS, "a call that is not in the filter")
 
 

@@ -3,7 +3,7 @@
 import os
 from typing import Dict, List, Tuple
 
-from support import Failure, Suite, expect, expect_ran
+from support import REPORT, TESTS, Failure, Suite, expect, expect_ran
 
 # A run, by the words after asancol-run, in which PROGRAM stands for the recorded program: its status, and texts that
 # are on standard error. A text after a `!` is not there.
@@ -104,6 +104,33 @@ RUNS: Dict[str, Tuple[str, int, List[str]]] = {
         "INCOMPLETE: reached the event limit: ", "events were not recorded, since ASANCOL_SEGMENTS is 0\n"
     ]),
     "limit of a child, in segments": ("-- sh -c 'ASANCOL_LIMIT=9000 PROGRAM many 9000'", 0, ["complete", "!ASANCOL"]),
+    "mismatches are not wanted": ("-- sh -c 'ASANCOL_MISMATCHES=0 PROGRAM sound; PROGRAM sound'", 0, [
+        "not checked: families and sizes of frees (ASANCOL_MISMATCHES=0)\n"
+    ]),
+    "mismatches are wanted": ("--unchecked=error -- env ASANCOL_MISMATCHES=0 PROGRAM sound", 98, []),
+    "mismatches are not wanted in the run": ("--no-mismatches --unchecked=error -- PROGRAM sound", 0, ["all complete"]),
+    "leaks are not wanted": ("--leaks=yes -- env ASANCOL_LEAKS=0 PROGRAM sound", 0, [
+        "not checked: leaks (ASANCOL_LEAKS is not 1)\n"
+    ]),
+    "leaks are but a line": ("-- env ASANCOL_LEAKS=0 PROGRAM sound", 0, ["all complete"]),
+    "use after return is not looked for": ("-- env ASANCOL_USE_AFTER_RETURN=0 PROGRAM sound", 0, ["all complete"]),
+    "frames that nobody looked at": ("-- ENDED skipped=8", 0, ["not checked: frames in a block, from another stack\n"]),
+    "returns that nobody looked at": ("-- ENDED skipped=2", 0, [
+        "not checked: uses after return (ASANCOL_USE_AFTER_RETURN=0)\n"
+    ]),
+    "freed memory came again": ("-- ENDED used_again=1234567890", 0, [
+        "; all complete\nasancol: process ",
+        "./ended: handed out freed memory again after 1.2 GB of blocks, so later uses after free may be missed\n"
+    ]),
+    "freed memory came again in three": (
+        "--unchecked=error -- sh -c 'ENDED used_again=6815744; ENDED used_again=0; ENDED used_again=9; "
+        "ENDED used_again=8; exit 7'", 7, ["again after 6.8 MB of blocks, ", "may be missed; and so did 2 more\n"]
+    ),
+    "freed memory came again, quiet": ("-q -- ENDED used_again=6815744", 0, ["!asancol"]),
+    "freed memory came again, past all addresses": ("-- ENDED used_again=18446744073709551615", 0, [
+        "handed out freed memory again after 140737.5 GB of blocks"
+    ]),
+    "freed memory did not come again": ("-- ENDED used_again=0", 0, ["all complete\n", "!again"]),
     "environment": (
         "-- sh -c 'PROGRAM sound; test -n \"$ASANCOL_HUB\" -a -z \"${ASANCOL_QUARANTINE+x}\"'", 0, []
     ),
@@ -163,6 +190,7 @@ REFUSED: Dict[str, Tuple[str, str]] = {
 def split(suite: Suite, line: str) -> List[str]:
     """Splits a line as a shell does."""
     words = line.replace("PROGRAM", suite.program).replace("UNCHECKED", suite.unchecked)
+    words = words.replace("ENDED", f"{TESTS}/ended.py")
     found: List[str] = []
     for number, piece in enumerate(words.split("'")):
         found += [piece] if number % 2 else piece.split()
@@ -191,7 +219,7 @@ def check_help(suite: Suite, folder: str) -> None:
         ran = suite.run(word)
         expect((ran.status, ran.err), (0, ""), word)
         lines = ran.out.splitlines()
-        if len(lines) > 41 or max(len(it) for it in lines) > 80:
+        if len(lines) > 42 or max(len(it) for it in lines) > 80:
             raise Failure(f"the help has {len(lines)} lines, and up to {max(len(it) for it in lines)} columns")
     expect(suite.run("--version").out.split()[0], "asancol-run", "version")
     expect(suite.run("-q", "--help").status, 0, "help after another option")
@@ -239,6 +267,17 @@ def check_environment(suite: Suite, folder: str) -> None:
     expect(after, before, "environment")
 
 
+def check_beside(suite: Suite, folder: str) -> None:
+    """A process that can make no side memory gets one, and a limit that can be raised is no limit."""
+    line = "ulimit -f 100; PROGRAM past; ulimit -S -n 30; exec PROGRAM child_of_full".replace("PROGRAM", suite.program)
+    ran = suite.run("--", "sh", "-c", line, ASANCOL_REPORT=REPORT)
+    expect_ran(ran, 99, "in store_past ", "in load_freed ", "3 processes, ", "; all complete\n")
+    line = line.replace("-S ", "")
+    ran = suite.run("--", "sh", "-c", line, ASANCOL_REPORT=REPORT)
+    why = "its findings and leaks are not known, since nothing stands beside its trace: Too many open files\n"
+    expect_ran(ran, 99, "its place was not recorded", f"INCOMPLETE: {why}", "3 processes, ", "1 INCOMPLETE\n")
+
+
 def check_event_limit(suite: Suite, folder: str) -> None:
     ran = suite.run("--", suite.program, "many", "10000", ASANCOL_LIMIT="5000", ASANCOL_SEGMENTS="0")
     expect_ran(ran, 98, "INCOMPLETE: reached the event limit: 15003 of 20003 events were not recorded")
@@ -256,3 +295,4 @@ def tests(suite: Suite) -> None:
     suite.test("quarantine of the environment", check_quarantine_of_environment)
     suite.test("environment", check_environment)
     suite.test("event limit", check_event_limit)
+    suite.test("nothing beside", check_beside)

@@ -13,7 +13,7 @@ from testing import (  # noqa: F401
     TOP, Failure, Later, LeftOut, Ran, compilers_there, environment, expect, expect_in, expect_not_in, leave_out,
     wait_until, write_text,
 )
-from testing.programs import CC, REPORT, finish, ran_of  # noqa: F401
+from testing.programs import CC, REPORT, Started, call, finish, ran_of  # noqa: F401
 from testing.suite import Result
 
 TESTS = os.path.dirname(os.path.abspath(__file__))
@@ -51,10 +51,10 @@ class Suite(testing.Suite):
         source = f"{TESTS}/programs.c"
         plain = f"{self.folder}/plain.o"
         compiler = os.environ.get("ASANCOL_CC", "cc")
-        subprocess.run([CC, "-g", "-O1", source, "-o", self.program], check=True)
-        subprocess.run([*compiler.split(), "-c", source, "-o", plain], check=True)
+        call([CC, "-g", "-O1", source, "-o", self.program], check=True)
+        call([*compiler.split(), "-c", source, "-o", plain], check=True)
         made = [CC, plain, "-o", self.unchecked]
-        subprocess.run(made, stderr=subprocess.DEVNULL, check=True)
+        call(made, stderr=subprocess.DEVNULL, check=True)
 
     def environment(self, **settings: str) -> Dict[str, str]:
         """The environment without what speaks to asancol, and with these settings. The report is the fake one."""
@@ -71,15 +71,15 @@ class Suite(testing.Suite):
 
     def run_argv(self, argv: Sequence[str], cwd: Optional[str] = None, **settings: str) -> Ran:
         """Runs any command."""
-        ran = subprocess.run(argv, env=self.environment(**settings), cwd=cwd, stdin=subprocess.DEVNULL,
-                             capture_output=True, timeout=PATIENCE, check=False)
+        ran = call(argv, env=self.environment(**settings), cwd=cwd, stdin=subprocess.DEVNULL,
+                   capture_output=True, timeout=PATIENCE, check=False)
         return ran_of(ran)
 
-    def start(self, *argv: str, user: Optional[int] = None, **settings: str) -> "subprocess.Popen[str]":
+    def start(self, *argv: str, user: Optional[int] = None, **settings: str) -> Started:
         """Starts asancol-run, as another user if one is named."""
         environment = self.environment(**settings)
-        return subprocess.Popen([RUN, *argv], env=environment, stdin=subprocess.DEVNULL, text=True, user=user,
-                                stdout=subprocess.PIPE, stderr=subprocess.PIPE)
+        return Started([RUN, *argv], env=environment, stdin=subprocess.DEVNULL, text=True, user=user,
+                       stdout=subprocess.PIPE, stderr=subprocess.PIPE)
 
     def packets(self, folder: str, *argv: str, **settings: str) -> List[Any]:
         """Runs asancol-run, and returns what the report was sent; first its words."""
@@ -97,6 +97,24 @@ class Suite(testing.Suite):
     def clean_up(self) -> None:
         self.show_findings()
         shutil.rmtree(self.folder, ignore_errors=True)
+
+
+def hash_of(text: str, before: int = 2166136261) -> int:
+    """Returns the hash of a text (common/hash.h), or of one that stands before it with it."""
+    for byte in text.encode():
+        before = (before ^ byte) * 16777619 % (1 << 32)
+    return before
+
+
+def mark_of(number: int) -> int:
+    """Returns the mark of a hub whose name has this hash (common/inherited.h)."""
+    return 4095 - (number >> 8) % 2048
+
+
+def marked_slack(hub: str, slack: int = 50000) -> int:
+    """Returns the timer slack that has the mark of a hub."""
+    marked = slack // 4096 * 4096 + mark_of(hash_of(hub))
+    return marked + 4096 if marked < slack else marked
 
 
 def read_packets(path: str) -> List[Any]:

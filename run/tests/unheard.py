@@ -1,11 +1,20 @@
 """Programs of asancol-cc that die before main, lose their environment, or cannot reach the hub: the verdict names
 them."""
 
+import itertools
 import os
-import subprocess
+import select
+import shutil
+import socket
+import string
+import threading
+from functools import partial
 from typing import List, Tuple
 
-from support import CC, REPORT, Suite, expect, expect_in, expect_ran
+from support import (
+    CC, REPORT, RUN, Suite, expect, expect_in, expect_ran, finish, hash_of, leave_out, mark_of, wait_until, write_text,
+)
+from testing.programs import accept, call, join
 
 # Dies in its first constructor, in the way that its environment says; and is a library that does so, too.
 DIES = """
@@ -151,9 +160,57 @@ int main(int count, char **argv) {
     return 0;
 }
 """
+# Starts itself and ends that at once, or once it is before its main.
+KILLS = """
+#include <signal.h>
+#include <stdlib.h>
+#include <string.h>
+#include <sys/wait.h>
+#include <unistd.h>
+__attribute__((constructor)) static void waits(int count, char **argv) {
+    if (count < 2 || strcmp(argv[1], "waits")) return;
+    if (getenv("BUG")) ((char *volatile)malloc(5))[5] = 1;
+    write(1, "x", 1);
+    pause();
+}
+int main(int count, char **argv) {
+    int ends[2], number = atoi(argv[1]), times = atoi(argv[2]);
+    char byte;
+    for (int i = 0; i < times; i++) {
+        pipe(ends);
+        pid_t child = fork();
+        if (child == 0) { dup2(ends[1], 1); close(ends[1]); execl(argv[0], argv[0], "waits", NULL); }
+        close(ends[1]);
+        if (count > 3) usleep(i * 300);
+        else read(ends[0], &byte, 1);
+        kill(child, number);
+        close(ends[0]);
+        if (count > 4) continue;
+        waitpid(child, &number, 0);
+        number = WTERMSIG(number);
+    }
+    return 0;
+}
+"""
 STARTS = ("exec", "fork", "vfork", "spawn", "spawnp", "fexecve")
 NEVER = "INCOMPLETE: it ended before its recording began"
-NO_HUB = "INCOMPLETE: it was started without ASANCOL_HUB in its environment"
+# Leaks, frees and has a bad access, or starts another one of itself so, without an environment.
+LOST = """
+#include <stdlib.h>
+#include <string.h>
+#include <sys/wait.h>
+#include <unistd.h>
+int main(int count, char **argv) {
+    char *none[] = {NULL};
+    char *volatile block = malloc(5);
+    int starts = count > 2 && strcmp(argv[2], "starts") == 0;
+    for (int i = 0; i < 9 && count > 1 && strchr(argv[1], 'l'); i++) block = malloc(7);
+    if (count > 1 && strchr(argv[1], 'b')) block[7] = 1;
+    if (count > 1 && strchr(argv[1], 'f')) { free(block); block[0] = 1; }
+    if (starts && fork() == 0) execve(argv[0], (char *[]){argv[0], "b", NULL}, none);
+    return starts && wait(NULL) < 0;
+}
+"""
 
 
 def build(folder: str, name: str, text: str, *flags: str, compiler: str = CC) -> str:
@@ -161,7 +218,7 @@ def build(folder: str, name: str, text: str, *flags: str, compiler: str = CC) ->
     made, source = f"{folder}/{name}", f"{folder}/{name.partition('.')[0]}.c"
     with open(source, "w", encoding="utf-8") as file:
         file.write(text)
-    subprocess.run([*compiler.split(), "-g", "-w", source, "-o", made, *flags], check=True)
+    call([*compiler.split(), "-g", "-w", source, "-o", made, *flags], check=True)
     return made
 
 
@@ -177,6 +234,49 @@ def check_constructor(suite: Suite, folder: str, is_library: bool) -> None:
         expect(ran.status, STATUSES.get(way, INCOMPLETE), f"status of {way}")
 
 
+def check_killed(suite: Suite, folder: str) -> None:
+    """A child that another process ends before it has come to its main, as a test's that is over, is a line. What ended
+    by a mistake is not, nor what had a bug."""
+    build(folder, "kills", KILLS)
+    for number in (9, 15, 2):
+        ran = suite.run("--leaks=no", "--", "./kills", str(number), "1", cwd=folder)
+        expect_ran(ran, 0, " before main: seen up to there", "; all complete, 1 ended abruptly")
+        for not_waited in ([], ["not waited for"]):
+            ran = suite.run("--leaks=no", "--", "./kills", str(number), "8", "at once", *not_waited, cwd=folder)
+            expect_ran(ran, 0, "; all complete")
+    for number in (11, 6, 31):
+        ran = suite.run("--leaks=no", "--", "./kills", str(number), "1", cwd=folder, ASANCOL_REPORT=REPORT)
+        expect_ran(ran, 98, "kills: INCOMPLETE: ended by SIG", " before main")
+    ran = suite.run("--leaks=no", "--", "./kills", "9", "1", cwd=folder, BUG="1", ASANCOL_REPORT=REPORT)
+    expect_ran(ran, 99, " before main", "1 report at 1 place")
+
+
+OVERFLOWS = """
+#include <stdlib.h>
+int main(int count, char **argv) {
+    char *volatile text = malloc(5);
+    text[5] = 1;
+    free(text);
+    return 0;
+}
+"""
+
+
+def check_found_run(suite: Suite, folder: str) -> None:
+    """A process without an environment finds its run where that has an odd folder, and in real time, where the system
+    takes the mark away."""
+    build(folder, "overflows", OVERFLOWS)
+    os.mkdir(f"{folder}/two\nlines")
+    ran = suite.run("--", "env", "-i", "./overflows", cwd=folder, TMPDIR=f"{folder}/two\nlines", ASANCOL_REPORT=REPORT)
+    expect_ran(ran, 99, "1 report at 1 place; 1 process, ")
+    chrt = ["chrt", "-f", "1"]
+    if os.geteuid() != 0 or not shutil.which("chrt") or call([*chrt, "true"], check=False).returncode != 0:
+        leave_out("a process in real time: nobody but root may start one, by chrt")
+        return
+    ran = suite.run("--", *chrt, "env", "-i", "./overflows", cwd=folder, ASANCOL_REPORT=REPORT)
+    expect_ran(ran, 99, "1 report at 1 place; 1 process, ")
+
+
 def build_family(folder: str) -> None:
     """Builds a parent, and what it runs."""
     for name, text in (("parent", PARENT), ("good", GOOD), ("resolves", RESOLVES)):
@@ -188,7 +288,7 @@ def build_family(folder: str) -> None:
     with open(f"{folder}/script", "w", encoding="utf-8") as file:
         file.write(f"#! {folder}/resolves\n")
     os.chmod(f"{folder}/script", 0o755)
-    subprocess.run(["strip", f"{folder}/resolves"], check=True)
+    call(["strip", f"{folder}/resolves"], check=True)
 
 
 def check_plain_parent(suite: Suite, folder: str) -> None:
@@ -232,23 +332,178 @@ def check_no_descriptors(suite: Suite, folder: str, compiler: str) -> None:
 
 
 def check_lost_environment(suite: Suite, folder: str) -> None:
+    """A process whose environment was cleaned finds the run, and is recorded as any other, with its settings."""
     build_family(folder)
+    build(folder, "lost", LOST)
     for line in ("env -i ./good", "env -u ASANCOL_HUB ./good", "ASANCOL_HUB= ./good"):
-        expect_ran(suite.run("--", "sh", "-c", f"{line}; ./good", cwd=folder), 98, f"./good: {NO_HUB}", "2 processes, ")
+        expect_ran(suite.run("--", "sh", "-c", f"{line}; ./good", cwd=folder), 0, "2 processes, ", "all complete")
     for way in ("empty", "clearenv"):
-        expect_ran(suite.run("--", "./parent", way, "./good", cwd=folder), 98, f"./good: {NO_HUB}")
-        expect_ran(suite.run("--", "./parent", way, "./plain", cwd=folder), 0, "all complete")
+        for name in ("good", "plain"):
+            expect_ran(suite.run("--", "./parent", way, f"./{name}", cwd=folder), 0, "all complete")
+    ran = suite.run("--leaks=no", "--", "env", "-i", "./lost", "b", "starts", cwd=folder, ASANCOL_REPORT=REPORT)
+    expect_ran(ran, 99, "2 reports at 1 place; 3 processes, ", "all complete")
+    ran = suite.run("--leaks=yes", "--", "env", "-i", "./lost", "l", cwd=folder, ASANCOL_REPORT=REPORT)
+    expect_ran(ran, 99, "2 places (2 by the recorder)")
+    inner = [f"ASANCOL={suite.asancol}", RUN, "-q", "--leaks=no", "--", "./lost", "b"]
+    ran = suite.run("--", "env", "-i", f"PATH={os.environ['PATH']}", *inner, cwd=folder, ASANCOL_REPORT=REPORT)
+    expect_ran(ran, 99, "1 process in 2 runs, ")
+    expect_ran(suite.run("--", "env", "-i", "ASANCOL_TRACE=x", "./good", cwd=folder), 98,
+               "./good: INCOMPLETE: ASANCOL_TRACE is set for it, so its trace is there")
+    for name, text in (("ASANCOL_LIMIT", "reached the event limit: "), ("ASANCOL_HALT", "the process ends: a bad")):
+        ran = suite.run("--", "env", "-i", "./lost", "f", cwd=folder, ASANCOL_SEGMENTS="0", **{name: "1"})
+        expect_in(ran.err, text)
+
+
+# Takes a mark away, and becomes a program.
+UNMARKED = "import ctypes, os, sys; ctypes.CDLL(None).prctl(29, 50000); os.execvp(sys.argv[1], sys.argv[1:])"
+
+
+def check_lost_mark(suite: Suite, folder: str) -> None:
+    """A process that has not even the mark finds the run by what is above it, whatever that is called."""
+    lost = build(folder, "lost", LOST)
+    odd = shutil.copy(shutil.which("sh") or "", f"{folder}/a) S 1 (")
+    line = f"{lost}; python3 -c '{UNMARKED}' env -i {lost} b; true"
+    for shell in ([odd, "-c", line], ["env", "A=", "sh", "-c", f"env -i '{odd}' -c \"{line}\"; true"]):
+        ran = suite.run("--leaks=no", "--", *shell, ASANCOL_REPORT=REPORT)
+        expect_ran(ran, 99, "1 report at 1 place; 2 processes, ", "all complete")
+
+
+def check_other_places(suite: Suite, folder: str) -> None:
+    """Likewise in another network, where there are other names; there also if the folder of the run is not where each
+    looks."""
+    lost = build(folder, "lost", LOST, "-static")
+    for line in (["unshare", "-n", "env", "-i", lost], ["env", "-i", "unshare", "-n", "-p", "-f", lost]):
+        ran = suite.run("--leaks=no", "--", *line, "b", ASANCOL_REPORT=REPORT)
+        expect_ran(ran, 99, "1 report at 1 place; 1 process, ")
+    ran = suite.run("--leaks=no", "--", "sh", "-c", f"unshare -n env -i {lost} b; true", TMPDIR=folder,
+                    ASANCOL_REPORT=REPORT)
+    expect_ran(ran, 99, "1 report at 1 place; 1 process, ")
+
+
+def names_listed() -> List[str]:
+    """Returns abstract names in the order in which the system lists them. Others come and go in the meantime, and it
+    may pass over one that stays."""
+    with open("/proc/net/unix", encoding="utf-8") as names:
+        return [line.rstrip("\n").partition(" @")[2] for line in names if " @" in line]
+
+
+class Namesake:
+    """Another run with the mark of one. It answers nothing. If few names do for that it is listed first."""
+
+    MOST = 200
+    LETTERS = string.ascii_letters + string.digits + "!#$%&*+,.:;<=>?^_|~"
+
+    def __init__(self, folder: str, hub: str, slack: int) -> None:
+        self.is_asked = self.is_over = self.is_first = False
+        front = f"{folder}/asancol-other/"
+        before = hash_of(front)
+        ends = ("".join(it) for it in itertools.product(self.LETTERS, repeat=4))
+        names = (front + it for it in ends if mark_of(hash_of(it, before)) == slack % 4096)
+        self.sockets = [self.listen(f"{front}ask")]
+        for name in itertools.islice(names, self.MOST):
+            self.sockets.append(self.listen(name))
+            listed = names_listed()
+            self.is_first = {name, hub} <= set(listed) and listed.index(name) < listed.index(hub)
+            if self.is_first:
+                break
+        self.thread = threading.Thread(target=self.answer, daemon=True)
+
+    @staticmethod
+    def listen(name: str) -> socket.socket:
+        made = socket.socket(socket.AF_UNIX)
+        made.bind(f"\0{name}")
+        made.listen()
+        return made
+
+    def answer(self) -> None:
+        while not self.is_over:
+            if select.select(self.sockets[:1], [], [], 0.1)[0]:
+                with accept(self.sockets[0]) as peer:
+                    self.is_asked |= peer.recv(64) == b"settings"
+
+    def __enter__(self) -> "Namesake":
+        self.thread.start()
+        return self
+
+    def __exit__(self, *_: object) -> None:
+        self.is_over = True
+        join(self.thread, "the end of what answers")
+        for it in self.sockets:
+            it.close()
+
+
+def check_same_mark(suite: Suite, folder: str) -> None:
+    """Of two runs whose marks are the same each process finds its own, and so does a run in a run."""
+    inner = f"env -i PATH={os.environ['PATH']} ASANCOL={suite.asancol} {RUN} -q --leaks=no --"
+    for line, said in ((f"env -i {suite.program} past", "1 process, "),
+                       (f"{inner} {suite.program} past", "1 process in 2 runs, ")):
+        go, named = f"{folder}/go", f"{folder}/named"
+        script = f"echo $(cat /proc/$$/timerslack_ns) ${{ASANCOL_HUB%-*}} > {named}.new; mv {named}.new {named}; "
+        script += f"timeout 20 sh -c 'while [ ! -e {go} ]; do sleep 0.05; done'; {line}"
+        run = suite.start("--leaks=no", "--", "sh", "-c", script, ASANCOL_REPORT=REPORT)
+        wait_until(partial(os.path.exists, named), "the mark")
+        with open(named, encoding="utf-8") as file:
+            slack, hub = file.read().rstrip("\n").split(" ", 1)
+        # Each time with names of its own: what another test starts just now may still have the others.
+        with Namesake(f"{folder}/{len(said)}", hub, int(slack)) as other:
+            write_text(go, "")
+            expect_ran(finish(run), 99, said)
+        expect(other.is_asked or not other.is_first, True, f"whether the other was asked first, by {line}")
+        for path in (go, named):
+            os.unlink(path)
+
+
+# A program that makes room for a title of its own where its arguments and its environment are, as servers do.
+TITLE = """
+#include <stdlib.h>
+#include <string.h>
+#include <sys/wait.h>
+#include <unistd.h>
+extern char **environ;
+int main(int argc, char **argv)
+{
+    char *end = argv[0], **moved;
+    int count = 0;
+    while (environ[count]) count++;
+    moved = calloc(count + 1, sizeof *moved);
+    for (int i = 0; i < count; i++) {
+        end = environ[i] + strlen(environ[i]) + 1;
+        moved[i] = strdup(environ[i]);
+    }
+    environ = moved;
+    memset(argv[0], 'x', end - argv[0]);
+    for (int i = 0; i < 2; i++)
+        if (fork() == 0) {
+            char *volatile p = malloc(5);
+            p[5] = 1;
+            _exit(0);
+        }
+    while (wait(NULL) > 0) ;
+    return 0;
+}
+"""
+
+
+def check_title(suite: Suite, folder: str, compiler: str) -> None:
+    """A program that has written over its environment has the run's children."""
+    program = build(folder, "title", TITLE, compiler=f"env ASANCOL_CC={compiler} {CC}")
+    ran = suite.run("--leaks=no", "--", program, ASANCOL_REPORT=REPORT)
+    expect_ran(ran, 99, "heap-buffer-overflow", "2 reports at 1 place; 3 processes, ", "; all complete\n",
+               absent=["can't be reached"])
 
 
 def check_set_user(suite: Suite, folder: str) -> None:
-    """A set-user-ID program ignores its settings: its parent says so, or it connects and sends nothing."""
+    """A set-user-ID program ignores its settings: its parent says so, or it does."""
     build_family(folder)
     os.chmod(folder, 0o755)
     os.chown(f"{folder}/good", 1, 1)
     os.chmod(f"{folder}/good", 0o4755)
     ran = suite.run("--", "./parent", "fork", "./good", cwd=folder)
     expect_ran(ran, 98, "./good: INCOMPLETE: it is set-user-ID or set-group-ID, so it ignores its settings")
-    expect_ran(suite.run("--", "sh", "-c", "./good; ./parent fork ./plain", cwd=folder), 98, "1 INCOMPLETE")
+    for line in ("./good; ./parent fork ./plain", "env -i ./good; ./parent fork ./plain"):
+        ran = suite.run("--", "sh", "-c", line, cwd=folder)
+        expect_ran(ran, 98, "./good: INCOMPLETE: it is set-user-ID or set-group-ID", "3 processes, ", "; 1 INCOMPLETE",
+                   absent=["refused"])
 
 
 def check_foreign_host(suite: Suite, folder: str) -> None:
@@ -285,12 +540,18 @@ def tests(suite: Suite) -> None:
     expect(os.access(CC, os.X_OK), True, "the recorder is built")
     for name, is_library in (("the program", False), ("a library", True)):
         suite.test(f"unheard: in a constructor of {name}", check_constructor, is_library)
+    suite.test("unheard: killed at once", check_killed)
+    suite.test("unheard: a run that is found", check_found_run)
     suite.test("unheard: of a plain parent", check_plain_parent)
     suite.test("unheard: of a recorded parent", check_recorded_parent)
     for compiler in ("gcc", "clang"):
         suite.test(f"{compiler} unheard: without descriptors", check_no_descriptors, compiler)
+        suite.test(f"{compiler} unheard: with a title of its own", check_title, compiler)
     suite.test("unheard: without the environment", check_lost_environment)
+    suite.test("unheard: without the mark", check_lost_mark)
+    suite.test("unheard: runs with the same mark", check_same_mark)
     suite.test("unheard: a library in a foreign program", check_foreign_host)
     suite.test("unheard: out of reach", check_out_of_reach)
     if os.geteuid() == 0:
         suite.test("unheard: set-user-ID", check_set_user)
+        suite.test("unheard: another network", check_other_places)

@@ -5,11 +5,13 @@ import os
 import re
 import shutil
 import subprocess
+import sys
 from typing import Any, List
 
 from lives import at_terminal
-from support import CC, REPORT, RUN, TOP, Failure, Ran, Suite, environment, expect, expect_ran
+from support import CC, REPORT, RUN, TOP, Failure, Ran, Suite, environment, expect, expect_in, expect_ran
 from testing.classes import THE_SAME, table_of_classes
+from testing.programs import call
 
 PAST = "heap-buffer-overflow: store of 1 byte"
 CRASHED = "ended by SIGSEGV, by a store at address 0x10"
@@ -61,7 +63,7 @@ def check_variables(suite: Suite, folder: str) -> None:
         file.write(VARIABLES)
     for compiler in filter(shutil.which, ("gcc", "clang")):
         argv = [CC, "-g", "variables.c", "-o", compiler]
-        subprocess.run(argv, cwd=folder, check=True, env={**os.environ, "ASANCOL_CC": compiler})
+        call(argv, cwd=folder, check=True, env={**os.environ, "ASANCOL_CC": compiler})
         ran = run_real(suite, "--json", f"{folder}/x", "--", f"{folder}/{compiler}")
         expect_ran(ran, 99, " in fill ",
                    " 0 bytes past the end of 'buffer' (10 bytes) on the stack, declared in line 5",
@@ -119,7 +121,7 @@ def check_names(suite: Suite, folder: str) -> None:
     wanted = [(it.partition("// ")[2], str(at)) for at, it in enumerate(lines, 1) if it.startswith("APART")]
     for compiler in filter(shutil.which, ("gcc", "clang")):
         argv = [CC, "-g", "-w", "faults.c", "-o", compiler + "-faults"]
-        subprocess.run(argv, cwd=folder, check=True, env={**os.environ, "ASANCOL_CC": compiler})
+        call(argv, cwd=folder, check=True, env={**os.environ, "ASANCOL_CC": compiler})
         argv = ["--source-root", folder, "--shadow", "--", f"{folder}/{compiler}-faults"]
         ran = run_real(suite, "--json", f"{folder}/x", *argv)
         found = re.findall(r"ERROR: asancol: (.*?)(?:: .*)?\n    #0 .* faults\.c:(\d+):\d+\n", ran.err)
@@ -161,7 +163,7 @@ def check_short_stacks(suite: Suite, folder: str) -> None:
         file.write(CONTAINERS)
     for compiler in filter(shutil.which, ("g++", "clang++")):
         argv = [os.path.join(os.path.dirname(CC), "asancol-c++"), "-g", "-w", "named.cpp", "-o", compiler + "-named"]
-        subprocess.run(argv, cwd=folder, check=True, env={**os.environ, "ASANCOL_CXX": compiler})
+        call(argv, cwd=folder, check=True, env={**os.environ, "ASANCOL_CXX": compiler})
         ran = run_real(suite, "--", f"{folder}/{compiler}-named")
         stack = re.findall(r"^    (?:#\d+ 0x\w+ |\.\. \d+ )(.*)", ran.err.partition("is byte 0")[0], re.M)
         expect([it.partition("(")[0].partition(" /")[0] for it in stack],
@@ -220,6 +222,7 @@ def check_summaries_are_the_same(suite: Suite, folder: str) -> None:
         ["--", suite.program, "kills_itself", "9"],
         ["--", suite.unchecked, "sound"],
         ["--", "sh", "-c", f"{suite.program} crashes; {suite.unchecked} sound; true"],
+        ["--crashes", "--", "sh", "-c", f"{suite.program} crashes; {suite.unchecked} sound; true"],
         ["--timeout", "0.5", "--", suite.program, "sleeps", "30"],
     ):
         alone = run_real(suite, *argv)
@@ -231,7 +234,7 @@ def check_summaries_are_the_same(suite: Suite, folder: str) -> None:
             differs += r"|\d+ events?"
         seen = [re.sub(differs, "", ran.err) for ran in (alone, both)]
         expect((both.status, seen[1]), (alone.status, seen[0]), str(argv))
-        merged = suite.run_argv([REPORT, f"{folder}/x"])
+        merged = suite.run_argv([REPORT, f"{folder}/x", *(["--crashes"] * ("--crashes" in argv))])
         expect([it for it in merged.out.splitlines() if it not in both.err], [], f"what the result of {argv} adds")
 
 
@@ -314,7 +317,7 @@ def check_removed(suite: Suite, folder: str, compiler: str) -> None:
         argv = [CC, "-g", f"-Wl,--build-id={build_id}"]
         for more in (["-shared", "-fPIC", "library.c", "-o", "library.so"],
                      ["program.c", "./library.so", f"-Wl,-rpath,{folder}", "-o", "program"]):
-            subprocess.run([*argv, *more], cwd=folder, check=True, env={**os.environ, "ASANCOL_CC": compiler})
+            call([*argv, *more], cwd=folder, check=True, env={**os.environ, "ASANCOL_CC": compiler})
         ran = suite.run("--", "sh", "-c", f"./program; {after}", cwd=folder, ASANCOL_REPORT=REPORT)
         expect_ran(ran, 99, f"in of_library {folder}/library.c:5:", f"in main {folder}/program.c:5:",
                    f"in main {folder}/program.c:7:", absent=["no lines"])
@@ -324,8 +327,8 @@ def check_bare(suite: Suite, folder: str, compiler: str) -> None:
     """Why places have no lines is said once for each program, also beside one that has them; and where /proc is not."""
     source = f"{TOP}/examples/bug.c"
     for name, argv in (("lines", ["-g"]), ("plain", ()), ("stripped", ["-g", "-s"])):
-        subprocess.run([CC, *argv, source, "-o", f"{folder}/{name}"], check=True,
-                       env={**os.environ, "ASANCOL_CC": compiler})
+        call([CC, *argv, source, "-o", f"{folder}/{name}"], check=True,
+             env={**os.environ, "ASANCOL_CC": compiler})
     line = "; ".join(f"{folder}/{name} A" for name in ("lines", "plain", "plain", "stripped"))
     ran = run_real(suite, "--json", f"{folder}/x", "--", "sh", "-c", line)
     why = "has no lines: compile it with -g, and do not strip it"
@@ -379,20 +382,21 @@ def check_bad_rules(suite: Suite, folder: str) -> None:
 def check_crash(suite: Suite, folder: str) -> None:
     """Where a process crashed is shown, also with --quiet. It is no report."""
     line = f"{suite.program} crashes || true"
-    ran = run_real(suite, "--json", f"{folder}/x", "--", "sh", "-c", line)
+    ran = run_real(suite, "--crashes", "--json", f"{folder}/x", "--", "sh", "-c", line)
     expect_ran(ran, 0, f"{suite.program}: {CRASHED}\n    #0 0x", "in crashes", "no reports;",
                "1 process, 2 events; all complete, 1 crashed\n")
     crashed = [it for it in read_lines(f"{folder}/x") if it["type"] == "process"]
     process = crashed[0]
     expect((process["signal"], process["address"], process["stack"][0]["function"]), (11, "10", "crashes"),
            "JSON lines")
-    merged = suite.run_argv([REPORT, f"{folder}/x"])
+    merged = suite.run_argv([REPORT, "--crashes", f"{folder}/x"])
     expect((merged.status, CRASHED in merged.out), (0, True), merged.out)
-    expect_ran(run_real(suite, "-q", "--", "sh", "-c", line), 0, f"{suite.program}: {CRASHED}")
+    expect_ran(run_real(suite, "-q", "--crashes", "--", "sh", "-c", line), 0, f"{suite.program}: {CRASHED}")
+    expect_ran(run_real(suite, "-q", "--", "sh", "-c", f"{line}; exit 3"), 3, f"{suite.program}: {CRASHED}")
     check_crash_in_outputs(suite, folder, line)
     # The same line also if nobody can print where it was; and one for all that have the same.
     line = f"for i in 1 2 3 4; do {suite.program} crashes; done; true"
-    for quiet in ((), ["-q"]):
+    for quiet in (["--crashes"], ["--crashes", "-q"]):
         ran = run_real(suite, *quiet, "--", "sh", "-c", line)
         expect_ran(ran, 0, "asancol: 4 processes (", f", ..) {suite.program}: {CRASHED}")
         expect(ran.err.count("SIGSEGV, by a store at"), 1, "lines of crashes")
@@ -400,9 +404,44 @@ def check_crash(suite: Suite, folder: str) -> None:
         expect_ran(ran, 98, "asancol: 4 processes (", f", ..) {suite.program}: ended by SIGSEGV")
 
 
+AWAITED = "asancol: 2 processes ended by signals that their parents waited for; --crashes shows them\n"
+
+
+def check_awaited(suite: Suite, folder: str) -> None:
+    """What a parent has waited for is a line, if the command ended well: with and without asancol-report, from its
+    result, and with a report of the same process. With --quiet it is none."""
+    line = f"{suite.program} crashes; {suite.program} crashes"
+    outputs = [word for name in ("json", "junit", "codequality") for word in (f"--{name}", f"{folder}/{name}")]
+    ran = run_real(suite, *outputs, "--", "sh", "-c", f"{line}; true")
+    expect_ran(ran, 0, "asancol: no reports; 2 processes, 4 events; all complete\n" + AWAITED,
+               absent=["ended by SIGSEGV", "SUMMARY"])
+    said = ran.err.replace("Segmentation fault\n", "")  # the shell's
+    expect(suite.run_argv([REPORT, f"{folder}/json"]).out, said, "the text of the result")
+    shown = suite.run_argv([REPORT, "--crashes", f"{folder}/json"]).out
+    expect_in(shown, CRASHED, "all complete, 2 crashed\nSUMMARY: ")
+    marks = [it.get("awaited") for it in read_lines(f"{folder}/json") if it["type"] == "process"]
+    expect(marks, [True] * 2, "JSON lines")
+    expect(("<failure" in read(f"{folder}/junit"), read(f"{folder}/codequality")), (False, "[]\n"), "other outputs")
+    alone = suite.run("--", "sh", "-c", f"{line}; true", ASANCOL_REPORT="/bin/false")
+    expect_ran(alone, 98, AWAITED, absent=["ended by SIGSEGV"])
+    expect_ran(run_real(suite, "-q", "--", "sh", "-c", f"{line}; true"), 0, absent=["asancol"])
+    # The parent was recorded too, and says how its child has ended.
+    by_recorded = run_real(suite, "--", suite.program, "aborts")
+    expect_ran(by_recorded, 0, "1 process ended by a signal that its parent waited for", absent=["SUMMARY"])
+    # The command's own, one that nobody has waited for, and those of a command that has failed.
+    expect_ran(run_real(suite, "--", suite.program, "crashes"), -11, CRASHED, absent=["waited for"])
+    left = f"sh -c '{suite.program} crashes & exec true'; sleep 0.2"
+    expect_ran(run_real(suite, "--", "sh", "-c", left), 0, CRASHED, absent=["waited for"])
+    expect_ran(run_real(suite, "--", "sh", "-c", f"{line}; exit 1"), 1, CRASHED, absent=["waited for"])
+    ignores = ("import os, signal, sys, time; signal.signal(signal.SIGCHLD, signal.SIG_IGN); "
+               "os.fork() or os.execv(sys.argv[1], [*sys.argv[1:], 'crashes']); time.sleep(0.3)")
+    expect_ran(run_real(suite, "--", sys.executable, "-c", ignores, suite.program), 0, CRASHED, absent=["waited for"])
+
+
 def check_crash_in_outputs(suite: Suite, folder: str, line: str) -> None:
     """It has a place in each, and no line if it is suppressed. The status is the command's."""
     outputs = [word for name in ("junit", "sarif", "codequality", "html") for word in (f"--{name}", f"{folder}/{name}")]
+    outputs.append("--crashes")
     expect_ran(run_real(suite, *outputs, "--gen-suppressions", "--", "sh", "-c", line), 0,
                "  suppression: at:SEGV:crashes@")
     for name, text in (("junit", 'type="SEGV"'), ("sarif", '"ruleId": "SEGV"'), ("codequality", '"check_name": "SEGV"'),
@@ -481,11 +520,11 @@ def check_first_steps(suite: Suite, folder: str) -> None:
     where = f"{folder}/installed"
     for part in ("recorder", "run", "report"):
         argv = ["make", "-s", "-C", f"{TOP}/{part}", "install", f"PREFIX={where}", "DESTDIR="]
-        subprocess.run(argv, check=True, stdout=subprocess.DEVNULL)
+        call(argv, check=True, stdout=subprocess.DEVNULL)
     shutil.copy(suite.asancol, f"{where}/bin/asancol")
     build = [f"{where}/bin/asancol-cc", "-g", f"{TOP}/examples/bug.c", "-o", f"{folder}/bug"]
-    subprocess.run(build, check=True)
-    ran = subprocess.run(
+    call(build, check=True)
+    ran = call(
         [f"{where}/bin/asancol-run", "--", "./bug", "Alice"],
         cwd=folder, env=environment(), capture_output=True, text=True, check=False,
     )
@@ -499,9 +538,47 @@ def check_first_steps(suite: Suite, folder: str) -> None:
     modules = f"{where}/lib/asancol/asancol_report"
     expect(os.path.isdir(f"{modules}/__pycache__"), True, "that the modules are compiled")
     shutil.rmtree(f"{modules}/__pycache__")
-    expect(subprocess.run([f"{where}/bin/asancol-report", "--version"], env=environment(), check=True,
-                          stdout=subprocess.PIPE).stdout.split()[0], b"asancol-report", "its name")
+    expect(call([f"{where}/bin/asancol-report", "--version"], env=environment(), check=True,
+                stdout=subprocess.PIPE).stdout.split()[0], b"asancol-report", "its name")
     expect(os.path.exists(f"{modules}/__pycache__"), False, "that something was written where it is installed")
+
+
+ODD = b"\xc3\xbc k\xc2\x9b2J\x9b31m\xe2\x80\xae\xe2\x81\xa6\xd8\x9c\x1b[0m\n\xed\xa0\x80\xff\x7f"
+SHOWN = "\u00fc k\\x9b2J\\x9b31m\\u202e\\u2066\\u061c\\x1b[0m\\x0a\\xed\\xa0\\x80\\xff\\x7f"
+
+
+def check_odd_names(suite: Suite, folder: str) -> None:
+    """Whoever prints a name, it does nothing to a terminal, and looks the same; and a log is UTF-8."""
+    odd, log = os.fsdecode(os.fsencode(folder) + b"/" + ODD), f"{folder}/log"
+    os.link(suite.program, odd)
+    line = f"{folder}/{SHOWN}: ended abruptly, "
+    for more in ("true", f"{suite.program} past"):
+        run_real(suite, "--log-file", log, "--keep", f"{folder}/kept", "--unchecked=error", "--", "sh", "-c",
+                 '"$1" kills_itself 9; eval "$2"', "sh", odd, more)
+        expect(line in read(log), True, read(log))
+    for name in os.listdir(f"{folder}/kept"):
+        expect(name.isprintable(), True, ascii(name))
+    for argv in (("--", f"{odd}x"), ("--quarantine", odd, "--", "true"), ("--json", f"{odd}/x", "--", "true"),
+                 (f"--{odd}", "--", "true"), ("--leaks", odd, "--", "true"), ("--log-file", odd + "/x", "--", "true")):
+        err = suite.run(*argv).err
+        expect((SHOWN in err, err.rstrip("\n").replace("\n", "").isprintable()), (True, True), ascii(err))
+
+
+def check_small_files(suite: Suite, folder: str) -> None:
+    """A limit on the size of files ends neither asancol-run nor a checker by a signal, and the command has its own
+    ways."""
+    limited = ["prlimit", "--fsize=1000:", "--", RUN, "--log-file", f"{folder}/log", "--", "sh", "-c"]
+    ignored = "grep SigIgn /proc/self/status"
+    alone = suite.run_argv(["sh", "-c", ignored]).out.split()
+    line = "prlimit --fsize=unlimited: {} sound; {}; exit 3"
+    ran = suite.run_argv([*limited, line.format(suite.program, ignored)])
+    expect((ran.status, ran.out.split()[-2:]), (3, alone), ran.err)
+    line = "prlimit --fsize=unlimited: {} past 100; true"
+    expect_ran(suite.run_argv([*limited, line.format(suite.program)]), 98)
+    log = read(f"{folder}/log")
+    expect("its checker printed no verdict, and ended with status 4" in log, True, log)
+    ran = suite.run_argv(["prlimit", "--fsize=9:", "--", *limited[3:], "exit 3"])
+    expect(ran.status, 98, ran.err)
 
 
 def tests(suite: Suite) -> None:
@@ -512,8 +589,9 @@ def tests(suite: Suite) -> None:
         ("lowered bounds", check_lowered), ("names of classes", check_names), ("short stacks", check_short_stacks),
         ("baseline", check_baseline), ("outputs", check_outputs),
         ("outputs to descriptors", check_outputs_to_descriptors), ("nested", check_nested), ("kept", check_kept),
-        ("folder removed", check_folder_removed), ("crash", check_crash),
-        ("bad rules", check_bad_rules), ("killed in a file", check_killed_in_a_file),
+        ("folder removed", check_folder_removed), ("crash", check_crash), ("awaited", check_awaited),
+        ("odd names", check_odd_names), ("small files", check_small_files), ("bad rules", check_bad_rules),
+        ("killed in a file", check_killed_in_a_file),
         ("trace without a quarantine", check_without_quarantine),
         ("live", check_live), ("without Python", check_without_python), ("many", check_many),
         ("first steps", check_first_steps),

@@ -20,6 +20,12 @@ _Noreturn void fail(int status, const char *of, const char *what)
     fuzz_exit(status);
 }
 
+void say(const char *form, ...)
+{
+    if (form == NULL)
+        abort();
+}
+
 void child_keep_for_report(int descriptor)
 {
     close(descriptor);

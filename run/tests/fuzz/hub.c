@@ -12,6 +12,7 @@
 #include <unistd.h>
 
 #include "json.h"
+#include "printable.h"
 #include "processes.h"
 #include "verdict.h"
 
@@ -73,9 +74,11 @@ static void send_first(int to, unsigned kind, int side)
 static void look_at(struct process *process)
 {
     char *text = NULL, *list[WORDS + 1] = {process->name, process->why, process->fate};
+    char *shown = printable(process->name);
     size_t length = 0;
-    for (const char *at = process->name; *at != 0; at++)
-        expect((unsigned char)*at >= ' ' && *at != 0x7f);
+    for (const char *at = shown; *at != 0; at += printable_length(at))
+        expect(printable_length(at) > 0);
+    free(shown);
     expect(strlen(process->why) < sizeof process->why && strlen(process->fate) < sizeof process->fate);
     expect(!process->is_complete || process->has_checks);
     expect(process->is_complete || process->why[0] != 0);

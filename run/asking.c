@@ -1,0 +1,107 @@
+#define _GNU_SOURCE
+#include "asking.h"
+
+#include <errno.h>
+#include <string.h>
+#include <sys/socket.h>
+#include <unistd.h>
+
+#include "command.h"
+#include "common/hub_name.h"
+#include "common/text.h"
+#include "marks.h"
+#include "peers.h"
+#include "say.h"
+
+/* How many seconds one may have connected and not asked. */
+static const double PATIENCE = 1;
+
+static struct asker {
+    int connection;
+    struct ucred peer;
+    double until;
+} askers[ASKING_MOST];
+static size_t count;
+
+double asking_polls(struct pollfd *polls, double seconds)
+{
+    for (size_t i = 0; i < HUB_LISTENERS; i++)
+        polls[i] = (struct pollfd){count < ASKING_MOST ? hub_asked()[i] : -1, POLLIN, 0};
+    for (size_t i = 0; i < ASKING_MOST; i++)
+        polls[HUB_LISTENERS + i] = (struct pollfd){i < count ? askers[i].connection : -1, POLLIN, 0};
+    return count > 0 && seconds > PATIENCE ? PATIENCE : seconds;
+}
+
+static bool is_request(const char *text, const char *word)
+{
+    size_t length = strlen(word);
+    return begins_with(text, word) && (text[length] == 0 || text[length] == '\n');
+}
+
+static void answer(const struct asker *asker, const char *text, size_t length)
+{
+    /* A socket that nobody has sent to takes so much at once. */
+    if (send(asker->connection, text, length, MSG_NOSIGNAL | MSG_DONTWAIT) < 0)
+        return;
+}
+
+/* Who is not known to be ours gets no settings; and of another user's process that is not, its word is refused with a
+   line. */
+static void take_request(const struct asker *asker, char *text)
+{
+    size_t length;
+    const char *settings = command_settings(&length);
+    enum peer whose = peer_judge_asker(&asker->peer);
+    if (is_request(text, ASK_SETTINGS) && whose == PEER_OURS)
+        answer(asker, settings, length);
+    if (!is_request(text, ASK_UNSEEN) || whose == PEER_OTHERS)
+        return;
+    if (whose != PEER_OURS) {
+        peer_say_refused(&asker->peer);
+        return;
+    }
+    marks_take_word(asker->peer.pid, text + strlen(ASK_UNSEEN));
+    answer(asker, "", 1);
+}
+
+/* Answers whether it has asked, or is gone, or had its time. */
+static bool is_over(const struct asker *asker, bool is_ready)
+{
+    char text[ASK_MOST + 1];
+    if (!is_ready)
+        return now() >= asker->until;
+    ssize_t length = recv(asker->connection, text, ASK_MOST, MSG_DONTWAIT);
+    if (length > 0) {
+        text[length] = 0;
+        take_request(asker, text);
+    }
+    return length >= 0 || errno != EAGAIN;
+}
+
+void asking_take(const struct pollfd *polls)
+{
+    size_t before = count;
+    count = 0;
+    for (size_t i = 0; i < before; i++) {
+        if (!is_over(&askers[i], polls[HUB_LISTENERS + i].revents != 0))
+            askers[count++] = askers[i];
+        else
+            close(askers[i].connection);
+    }
+    for (size_t i = 0; i < HUB_LISTENERS; i++) {
+        while (polls[i].revents != 0 && count < ASKING_MOST) {
+            struct asker asker = {.until = now() + PATIENCE};
+            asker.connection = hub_accept(hub_asked()[i], &asker.peer);
+            if (asker.connection < 0)
+                break;
+            askers[count++] = asker;
+        }
+    }
+}
+
+bool asking_is_any(void)
+{
+    struct pollfd polls[ASKING_POLLS];
+    asking_polls(polls, 0);
+    return count > 0 || poll(polls, HUB_LISTENERS, 0) > 0;
+}

@@ -1,0 +1,30 @@
+/* The private folder of a run, in which its socket lies, and what processes leave there. It is known by a descriptor
+   that is kept since it was made: whoever may write to the folder round it can put another one under its name. */
+#ifndef ASANCOL_RUN_FOLDER_H
+#define ASANCOL_RUN_FOLDER_H
+
+#include <dirent.h>
+#include <stdbool.h>
+#include <stddef.h>
+
+/* How its name ends. */
+#define FOLDER_END "/asancol-XXXXXX"
+
+/* Whether others than its group, its owner and root can move what is in a folder. */
+bool folder_is_open_to_all(const char *base);
+/* Makes it in another folder. The room gets its path, which has to fit. */
+bool folder_make(const char *base, char *path, size_t room);
+/* Others may connect to a socket in it. */
+bool folder_open_socket(const char *name);
+/* Likewise, and gives it another name. */
+bool folder_give_name(const char *before, const char *name);
+/* What is in it; null: there is no folder. */
+DIR *folder_entries(void);
+/* What has become of it, as "removed"; null: it is there, or there is none. */
+const char *folder_lost(void);
+/* Removes it with what runs put there, and nothing else. */
+void folder_remove(void);
+/* Removes folders of runs of this user that were killed, beside it. */
+void folder_sweep(const char *base);
+
+#endif

@@ -1,0 +1,9 @@
+/* The run round this one, as nested.h has it. */
+#ifndef ASANCOL_RUN_OUTER_H
+#define ASANCOL_RUN_OUTER_H
+
+/* Its hub: what the environment says, or, if that was cleaned, what it answers that is found by its mark
+   (common/inherited.h). Null: there is none. */
+const char *outer_hub(void);
+
+#endif
