@@ -71,7 +71,8 @@ def strip(root: str) -> None:
     for archive in glob.glob(f"{root}/usr/lib/asancol/*.a"):
         argv = ["strip", "--strip-debug", "--enable-deterministic-archives", "--remove-section=.comment"]
         subprocess.run([*argv, archive], check=True)
-    subprocess.run(["strip", "--strip-unneeded", "--remove-section=.comment", f"{root}/{PRELOADED}"], check=True)
+    for shared in glob.glob(f"{root}/usr/lib/asancol/*.so"):
+        subprocess.run(["strip", "--strip-unneeded", "--remove-section=.comment", shared], check=True)
 
 
 def zip_pages(root: str) -> None:
@@ -92,11 +93,11 @@ def add_documents(root: str, version: str, maintainer: str, time: int) -> None:
     changelogs."""
     subprocess.run(["make", "-s", "docs"], cwd=TOP, check=True)
     folder = f"{root}/usr/share/doc/asancol"
-    os.makedirs(folder)
+    os.makedirs(folder, exist_ok=True)
     write(f"{folder}/README.md", text_of(f"{TOP}/README.md").replace("](CHANGELOG.md)", "](changelog.gz)"))
     shutil.copytree(f"{TOP}/examples", f"{folder}/examples")
     shutil.copy(f"{TOP}/CONTRIBUTING.md", folder)
-    shutil.copytree(f"{TOP}/docs", f"{folder}/docs")
+    shutil.copytree(f"{TOP}/docs", f"{folder}/docs", dirs_exist_ok=True)
     with open(f"{TOP}/CHANGELOG.md", "rb") as file:
         write_zipped(f"{folder}/changelog.gz", file.read())
     date = email.utils.formatdate(time)
@@ -138,7 +139,7 @@ def set_modes_and_times(root: str, time: int) -> None:
     for path in [*files_below(root), "."]:
         whole = f"{root}/{path}"
         if not os.path.islink(whole):
-            may_run = os.path.isdir(whole) or path.startswith("usr/bin/")
+            may_run = os.path.isdir(whole) or path.startswith(("usr/bin/", "usr/lib/asancol/cargo/"))
             os.chmod(whole, 0o755 if may_run else 0o644)
         os.utime(whole, (time, time), follow_symlinks=False)
 

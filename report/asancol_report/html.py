@@ -14,7 +14,7 @@ from typing import Dict, Iterable, Iterator, List, Optional, TextIO, Tuple
 
 from . import shadow_rows
 from .classes import advice_for, shadow_text, what_is
-from .crashes import Crash
+from .crashes import AWAITED, Crash
 from .findings import Finding, Frame, own_frames, place_text, Stack
 from .functions import brief
 from .options import Options
@@ -110,7 +110,7 @@ class Page:
         yield tile(unseen, "incomplete", "warn" if unseen else "good" if self.results.runs else "")
         hidden = sum(not finding.counts for finding in self.results.all_places())
         if hidden:
-            yield tile(hidden, "suppressed or known", "")
+            yield tile(hidden, "suppressed, known or waited for", "")
 
     def banner(self) -> Iterator[str]:
         lines = [f"{command_line(run.command)}: {trouble}" for run in self.results.runs
@@ -234,6 +234,8 @@ class Page:
             parts.append(tag("span", escape("suppressed by " + finding.suppression), class_="pill"))
         if finding.is_known:
             parts.append(tag("span", "known from the baseline", class_="pill"))
+        if isinstance(finding, Crash) and finding.is_awaited:
+            parts.append(tag("span", AWAITED, class_="pill"))
         line = suppression_of(finding, self.sources.root)
         if line:
             parts.append("to suppress: " + tag("code", escape(line), class_="pill"))
@@ -251,7 +253,7 @@ class Page:
     def processes_text(self) -> str:
         """Returns what is to be said of processes, for the head under which they are folded away."""
         totals = self.results.totals()
-        crashed = totals.crashed + totals.crashes_suppressed + totals.crashes_known
+        crashed = totals.crashed + totals.crashes_suppressed + totals.crashes_known + totals.crashes_awaited
         counts = ((totals.incomplete, "incomplete"), (totals.abrupt, "ended abruptly"), (crashed, "crashed"))
         said = [f"{number(count)} {text}" for count, text in counts if count]
         return f"{number(totals.processes)}: " + (", ".join(said) or "all complete" if totals.processes else "none")

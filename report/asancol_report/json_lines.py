@@ -12,6 +12,7 @@ from .errors import Broken, reason
 from .findings import (Block, DYNAMIC, Finding, first_own, Frame, GLOBAL, HEAP, near_of, Place, Rows, STACK, Stack,
                        Tally, Thread, Threads, UNKNOWN_THREAD)
 from .leaks import leak_text, Leaks
+from .reading import open_regular
 from .results import Process, Results, Run
 from .side import ACCESSES
 from .variables import Variable
@@ -21,6 +22,8 @@ VERSION = 1
 # Who has judged a finding, if it was not the checker.
 RECORDER = "recorder"
 MAX_NUMBER = (1 << 64) - 1
+# A finding has some stacks, whose names of functions may be long.
+MAX_LINE_LENGTH = 1 << 26
 # At most this many commands and other texts of processes are kept encoded.
 MAX_ENCODED = 1 << 14
 
@@ -73,10 +76,14 @@ def process_line(process: Process, run: int, crash: Optional[Crash], encode: Cal
         kept += f',"signal":{process.signal}'
     if process.is_abrupt:
         kept += ',"abrupt":true'
+    if process.is_awaited:
+        kept += ',"awaited":true'
     if process.findings:
         kept += f',"findings":{process.findings}'
     if process.segments > 1:
         kept += f',"segments":{process.segments}'
+    if process.used_again:
+        kept += f',"used_again":{process.used_again}'
     if process.address is not None:
         kept += f',"address":"{process.address:x}"'
     if process.access:
@@ -313,7 +320,7 @@ def process_of(entry: Entry, commands: Commands) -> Process:
                    text_of(get("crash")), text_of(get("fingerprint")),
                    next((it for it in ACCESSES.values() if it == get("access")), ""),
                    threads_of(entry) if "threads" in entry or "thread" in entry else NO_THREADS,
-                   number_of(get("findings")))
+                   number_of(get("findings")), get("awaited") is True, number_of(get("used_again")))
 
 
 def frame_of(entry: object) -> Frame:
@@ -444,6 +451,8 @@ class Reader:
         number = 0
         try:
             for number, line in enumerate(lines, 1):
+                if len(line) > MAX_LINE_LENGTH:
+                    raise Broken(f"{self.name}:{number}: a line of more than {MAX_LINE_LENGTH} characters")
                 if line.isspace():
                     continue
                 entry, end = decode(line)
@@ -517,22 +526,23 @@ class Reader:
         self.results.notes[text_of(entry.get("text"))] = None
 
 
-def read(path: str, results: Results) -> str:
+def read(path: str, results: Results, is_listed: bool = False) -> str:
     """Reads a file, or standard input for `-`, into results. Returns what is missing in it, or nothing. Broken, if it
-    can't be read; what came before is in the results."""
-    name = "standard input" if path == "-" else path
+    can't be read; what came before is in the results. One that a folder lists has to be a regular file."""
+    is_standard = path == "-" and not is_listed
+    name = "standard input" if is_standard else path
     try:
-        source: Union[int, str] = 0 if path == "-" else path
-        with open(source, encoding="utf-8", errors="surrogateescape", closefd=path != "-") as file:
+        source: Union[int, str] = 0 if is_standard else open_regular(path) if is_listed else path
+        with open(source, encoding="utf-8", errors="surrogateescape", closefd=not is_standard) as file:
             reader = Reader(results, name)
-            reader.read(file)
+            reader.read(iter(lambda: file.readline(MAX_LINE_LENGTH + 1), ""))
             return reader.missing
     except OSError as error:
         raise Broken(f"{name}: {reason(error)}") from None
 
 
-def read_whole(path: str, results: Results) -> None:
+def read_whole(path: str, results: Results, is_listed: bool = False) -> None:
     """Reads a file as `read` does. Broken also if something is missing."""
-    missing = read(path, results)
+    missing = read(path, results, is_listed)
     if missing:
         raise Broken(missing)

@@ -15,7 +15,7 @@ from .findings import Finding, place_text
 from .options import Options
 from .results import Process, Results, Run
 from .sources import Sources
-from .text import abrupt_lines, Colors, incomplete_lines, Text
+from .text import abrupt_lines, Colors, incomplete_lines, lines_of, Text
 from .words import command_line, date_and_time, printable, shown_path
 
 # What XML 1.0 does not allow, whether it is escaped or not.
@@ -86,8 +86,9 @@ def outcome(number: int, places: List[Finding], results: Results, root: str) -> 
     run = results.runs[number]
     lines = unseen(run) + ([f"asancol: {run.failure}"] if run.failure else [])
     said = "\n".join(lines)
-    abrupt = "\n".join(abrupt_lines(process for process in run.processes.values() if process.is_abrupt))
-    said = "\n".join(filter(None, (said, abrupt)))
+    beside = "\n".join([*abrupt_lines(process for process in run.processes.values() if process.is_abrupt),
+                        *lines_of(filter(results.is_awaited, run.processes.values()), lambda it: it.end)])
+    said = "\n".join(filter(None, (said, beside)))
     if places:
         body = failure(places, number, results, root)
         return "failure", body + (f"<system-err>{text_of(said)}</system-err>" if said else "")
@@ -95,7 +96,7 @@ def outcome(number: int, places: List[Finding], results: Results, root: str) -> 
         return "error", element("error", "incomplete", lines[0], said)
     if run.failure:
         return "failure", element("failure", "command", run.failure, said)
-    return "", f"<system-out>{text_of(abrupt)}</system-out>" if abrupt else ""
+    return "", f"<system-out>{text_of(beside)}</system-out>" if beside else ""
 
 
 def names_of(runs: List[Run]) -> List[str]:

@@ -28,6 +28,13 @@ def total(all_leaks: Iterable[Leaks]) -> Leaks:
     return Leaks(*map(sum, zip(Leaks(), *all_leaks)))
 
 
+def text_of_runs(all_leaks: Iterable[Leaks]) -> str:
+    """Returns what several runs have lost. How many of their places are the same is not known."""
+    runs = list(all_leaks)
+    text, most = str(total(runs)), max((lost.places for lost in runs), default=0)
+    return text if most == total(runs).places else text.replace(" at ", f" at {most} to ")
+
+
 def at_one_place(all_leaks: Iterable[Leaks]) -> Leaks:
     """Returns what several processes or runs have lost at the same place."""
     return total(all_leaks)._replace(places=1)

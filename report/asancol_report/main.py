@@ -4,6 +4,7 @@ from __future__ import annotations
 
 import os
 import signal
+import stat
 import sys
 from typing import Callable, List, Optional, TextIO, Tuple
 
@@ -47,6 +48,7 @@ class Report:
         self.root = os.path.realpath(root) if root else ""
         self.results = Results()
         self.results.lists_unchecked = options.value("--unchecked") != "no"
+        self.results.counts_awaited = options.switches["--crashes"]
         self.results.demands_checked = options.value("--unchecked") == "error"
         self.modules = Modules()
         self.symbols = Symbols(self.modules)
@@ -116,15 +118,22 @@ class Report:
             self.check_traces(files)
         else:
             for path in files:
-                for each in results_at(path):
-                    self.read_result(each)
+                self.read_results(path)
         if switches["--no-machines"]:
             self.results.forget_machines()
 
-    def read_result(self, path: str) -> None:
+    def read_results(self, path: str) -> None:
+        """Reads the results that a name stands for: of a folder those in it and below."""
+        if not os.path.isdir(path):
+            self.read_result(path, False)
+            return
+        for each in results_below(path):
+            self.read_result(each, True)
+
+    def read_result(self, path: str, is_listed: bool) -> None:
         """Reads a result. If that fails, what came before is in the report, and the others are."""
         try:
-            read_whole(path, self.results)
+            read_whole(path, self.results, is_listed)
         except Broken as error:
             self.fail_to_read(path, error)
 
@@ -133,10 +142,10 @@ class Report:
         self.unread.append((path, str(error)))
 
     def read_nested(self, folder: str) -> None:
-        """Reads what runs inside this one have left in its folder; asancol-run says if that is gone."""
-        for name in sorted(os.listdir(folder)) if os.path.isdir(folder) else ():
+        """Reads what runs inside this one have left in its folder; asancol-run says if that is gone, or another."""
+        for name in sorted(os.listdir(folder)) if is_own_folder(folder) else ():
             if name.startswith("nested.") and name.endswith(".jsonl"):
-                self.read_result(os.path.join(folder, name))
+                self.read_result(os.path.join(folder, name), True)
 
     def new_gatherer(self, run: int) -> Gatherer:
         has_rules = self.suppressions.rules or self.baseline
@@ -243,10 +252,17 @@ class Report:
         return CLEAN if self.results.is_complete() else INCOMPLETE
 
 
-def results_at(path: str) -> List[str]:
-    """Returns the results that a name stands for: of a folder those in it and below, in the order of their names."""
-    if not os.path.isdir(path):
-        return [path]
+def is_own_folder(path: str) -> bool:
+    """Returns whether a path names a folder of this user, and no link to one."""
+    try:
+        status = os.lstat(path)
+    except OSError:
+        return False
+    return stat.S_ISDIR(status.st_mode) and status.st_uid == os.geteuid()
+
+
+def results_below(path: str) -> List[str]:
+    """Returns the results in a folder and below, in the order of their names."""
     return sorted(os.path.join(folder, name) for folder, _, names in os.walk(path) for name in names
                   if name.endswith(".jsonl") and not name.startswith("."))
 

@@ -13,6 +13,7 @@ Output files:
   --html FILE          a page that needs no other file and no network
 Text:
   --live               print the first report of each place when it comes
+  --crashes            crashes that a parent waited for, too
   --source-root DIR    show files under DIR by their paths from there
   --color WHEN         colors: auto, always or never (auto)
   --full-stacks        print all frames of a stack, and whole names
@@ -83,6 +84,7 @@ WITH_VALUE = (
 )
 SWITCHES = (
     "--live",
+    "--crashes",
     "--full-stacks",
     "--shadow",
     "--no-machines",

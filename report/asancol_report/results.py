@@ -37,6 +37,8 @@ class Process(NamedTuple):
     access: str = ""  # of that address: "load", "store" or "jump", if that is known
     threads: Threads = Threads()  # the one that signal has met, and those that have led to it
     findings: int = 0  # places that its recorder flags by itself
+    is_awaited: bool = False  # its parent has waited for it, and the command has ended well all the same
+    used_again: int = 0  # how many bytes of blocks it had handed out when freed memory came again; 0: it never has
 
     @property
     def is_crash(self) -> bool:
@@ -120,6 +122,7 @@ class Totals(NamedTuple):
     crashed: int
     crashes_suppressed: int
     crashes_known: int
+    crashes_awaited: int
     troubles: int
     unchecked: int
     by_recorder: int  # of the reports
@@ -143,7 +146,8 @@ class Results:
         self.runs: List[Run] = []
         self.identities: Dict[str, int] = {}
         self.places: Dict[Place, Finding] = {}
-        self.crash_places: Dict[Tuple[str, str, int], Crash] = {}
+        self.crash_places: Dict[Tuple[str, str, int, bool], Crash] = {}
+        self.counts_awaited = False  # crashes that a parent has waited for are as others
         self.notes: Dict[str, None] = {}  # lines for the reader, each once
         self.unused: List[str] = []  # suppressions that matched nothing
         self.gone: Optional[int] = None  # places of the baseline that were not seen
@@ -191,18 +195,24 @@ class Results:
                 crash = Crash(process.crash_class, process.signal, process.address, process.end, program, process.stack)
                 crash.reports = process.reports + process.findings
                 crash.threads = process.threads
+                crash.is_awaited = self.is_awaited(process)
                 crash.fingerprint = process.fingerprint
                 if not crash.fingerprint:
                     crash.set_fingerprint(sources)
                     run.processes[process.number] = process._replace(fingerprint=crash.fingerprint)
-                known = self.crash_places.setdefault((crash.class_name, crash.fingerprint, crash.top.line), crash)
+                place = (crash.class_name, crash.fingerprint, crash.top.line, crash.is_awaited)
+                known = self.crash_places.setdefault(place, crash)
                 self.tally(known, number, Tally(1, 1, process.number, process.pid, process.events, process.segments))
 
     def crash_of(self, process: Process) -> Optional[Crash]:
         """Returns what stands for the crash of a process; None, if it has not crashed."""
         if not process.is_crash:
             return None
-        return self.crash_places.get((process.crash_class, process.fingerprint, line_of_crash(process.stack)))
+        return self.crash_places.get((process.crash_class, process.fingerprint, line_of_crash(process.stack),
+                                      self.is_awaited(process)))
+
+    def is_awaited(self, process: Process) -> bool:
+        return process.is_awaited and not self.counts_awaited
 
     @staticmethod
     def tally(finding: Finding, run: int, tally: Tally) -> None:
@@ -288,8 +298,8 @@ class Results:
             self.demands_checked and self.unchecked_count())
 
     def unchecked(self) -> List[str]:
-        """Returns the names of what was not checked, without libraries of the system."""
-        return list(dict.fromkeys(name for run in self.runs for name in run.unchecked))
+        """Returns the names of what was not checked, in their order, without libraries of the system."""
+        return sorted({name for run in self.runs for name in run.unchecked})
 
     def system_count(self) -> int:
         """Returns how many libraries of the system were not checked."""
@@ -320,6 +330,7 @@ class Results:
                       sum(not it.is_complete for it in processes), sum(it.is_abrupt for it in processes),
                       sum(it.count for it in crashes if it.counts), sum(it.count for it in crashes if it.suppression),
                       sum(it.count for it in crashes if it.is_known and not it.suppression),
+                      sum(it.count for it in crashes if it.is_awaited and not (it.is_known or it.suppression)),
                       sum(len(run.troubles) for run in self.runs), self.unchecked_count(), by_recorder,
                       total(run.leaks for run in self.runs))
 

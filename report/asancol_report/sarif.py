@@ -9,6 +9,7 @@ from urllib.parse import quote
 
 from . import RELEASE
 from .classes import advice_for, what_is
+from .crashes import AWAITED, Crash
 from .findings import Finding, Frame, own_frames, place_text, Stack, SYSTEM_LIBRARY
 from .json_lines import RECORDER
 from .options import Options
@@ -121,6 +122,8 @@ def result(finding: Finding, results: Results, rule: int, ordinal: int, root: st
         made["provenance"] = {"firstDetectionTimeUtc": stamp(seen.first), "lastDetectionTimeUtc": stamp(seen.last)}
     if finding.suppression:
         made["suppressions"] = [{"kind": "external", "justification": whole_characters(finding.suppression)}]
+    elif isinstance(finding, Crash) and finding.is_awaited:
+        made["suppressions"] = [{"kind": "external", "justification": AWAITED}]
     if finding.is_known is not None:
         made["baselineState"] = "unchanged" if finding.is_known else "new"
     return made

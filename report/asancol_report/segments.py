@@ -13,7 +13,7 @@ from typing import Dict, List, NamedTuple, Set, Tuple
 
 from .errors import reason
 from .reading import open_regular, read_at
-from .side import ENDING_NONE, ENDING_SEGMENT, HEAD, HEADER, PROGRESS, PROGRESS_AT
+from .side import ENDING_NONE, ENDING_SEGMENT, HEAD, HEADERS, MAPS_AT, PROGRESS, PROGRESS_AT, trouble_of
 
 # What the segments of a process share.
 Key = Tuple[str, ...]
@@ -65,7 +65,7 @@ def known_of(path: str) -> Known:
     folder = os.path.realpath(folder)
     family, number = apart(name)
     head, progress = fronts_of(path + ".where")
-    if len(head) < HEAD.size or not head.startswith(HEADER) or len(progress) < PROGRESS.size:
+    if len(head) < HEAD.size or not head.startswith(HEADERS) or len(progress) < PROGRESS.size:
         return Known((folder, *family), number)
     _, _, _, ending, _, process, _, started, *_ = HEAD.unpack(head)
     before = PROGRESS.unpack(progress)[1]
@@ -170,9 +170,8 @@ def look_at_sides(segments: List[Segment], notes: Dict[str, None]) -> None:
         path = segment.path + ".where"
         try:
             with open(open_regular(path), "rb") as side:
-                is_good = side.read(len(HEADER)) == HEADER
+                why = trouble_of(side.read(MAPS_AT))
         except OSError as error:
-            notes[f"{path}: {reason(error)}: record with ASANCOL_WHERE=1 to see where each event was"] = None
-        else:
-            if not is_good:
-                notes[f"{path} is no side file of version 3: {segment.path} was recorded by another release"] = None
+            why = f": {reason(error)}: record with ASANCOL_WHERE=1 to see where each event was"
+        if why:
+            notes[path + why] = None

@@ -13,6 +13,7 @@ from bisect import bisect_right
 from typing import Any, Dict, Iterator, List, NamedTuple, Optional, Tuple
 
 from .reading import is_regular, open_regular, read_at
+from .words import plural
 
 HEADER = b"ASWH\5\0\0\0"
 # One of these versions is read. The oldest has no findings, and zeros for them.
@@ -26,7 +27,7 @@ HAS_ADDRESS, BY_LOAD, BY_STORE, BY_JUMP, STACK_USED_UP = 1, 2, 4, 8, 16
 ACCESSES = {BY_LOAD: "load", BY_STORE: "store", BY_JUMP: "jump"}
 BUILDS_AT = 4096
 BUILD = struct.Struct("<QB23s")
-PROGRESS_AT, PROGRESS = 7680, struct.Struct("<16Q")
+PROGRESS_AT, PROGRESS = 7680, struct.Struct("<21Q32IQ")
 BESIDE_THREADS_AT, BESIDE_THREADS = 8160, struct.Struct("<II16s")
 MAPS_AT = 8192
 UNCHECKED_AT, UNCHECKED_ROOM = 245760, 1 << 14
@@ -66,8 +67,21 @@ INDEX_PART = 1 << 14
 FAULTS_PART = 1 << 10
 
 
+def trouble_of(head: bytes) -> str:
+    """Returns what is wrong with a side file of which this is all before its modules; nothing, if it can be read."""
+    version = head[VERSION_AT] if len(head) > VERSION_AT else 0
+    if head.startswith(HEADERS) and len(head) == MAPS_AT:
+        return ""
+    if head.startswith(HEADERS) or HEADER.startswith(head):
+        return f" is cut after {plural(len(head), 'byte')}, as on a full disk: record again to see where each event was"
+    if head[:VERSION_AT] == HEADER[:VERSION_AT]:
+        reads = f"{OLDEST} to {HEADER[VERSION_AT]}"
+        return f" has version {version}, and this release reads {reads}: take the other release"
+    return " is no side file: record with ASANCOL_WHERE=1 to see where each event was"
+
+
 class Mapping(NamedTuple):
-    """A part of a module that lay in memory."""
+    """A part of a module's code that lay in memory."""
 
     low: int
     high: int
@@ -172,10 +186,10 @@ class Side:
         self.fault_count = min(fault_count, MAX_FAULTS)
         self.stack_words = min(stack_words, MAX_STACK_WORDS)
         progress = read_at(descriptor, PROGRESS_AT, PROGRESS.size) if self.is_good else b""
-        has_progress = len(progress) == PROGRESS.size
-        fields = PROGRESS.unpack(progress) if has_progress else (0,) * 16
+        fields = PROGRESS.unpack(progress if len(progress) == PROGRESS.size else bytes(PROGRESS.size))
         self.needed, before, self.stated, self.noted = fields[:4]
         self.finding_count, self.findings_lost, self.leak_count, self.leaks_missed = fields[11:15]
+        self.inside = fields[16]
         self.segment = before + 1
         self.stacks: Dict[int, Calls] = {}
         self.maps = self.read_maps() if self.is_good else []
@@ -232,6 +246,7 @@ class Side:
         return builds
 
     def read_maps(self) -> List[Mapping]:
+        """Returns the parts of modules that are code, in the order of their addresses."""
         builds = self.read_builds()
         text = read_at(self.descriptor, MAPS_AT, UNCHECKED_AT - MAPS_AT).split(b"\0")[0]
         first: Dict[str, Tuple[int, str]] = {}
@@ -246,14 +261,15 @@ class Side:
             except ValueError:
                 continue
             path = path_of(words[5])
-            if path not in first or low in builds:
+            if path not in first or (offset == 0 and low in builds):
                 first[path] = (low, builds.get(low, ""))
-            maps.append(Mapping(low, high, offset, inode, path, *first[path]))
+            if b"x" in words[1]:
+                maps.append(Mapping(low, high, offset, inode, path, *first[path]))
         return sorted(maps)
 
     def mapping(self, address: int) -> Optional[Mapping]:
-        """Returns the part of a module that has an address. None too, if another module had it before or after: nobody
-        knows then which of them is meant."""
+        """Returns the part of a module that has an address of code. None too, if another module had its code there
+        before or after: nobody knows then which of them is meant."""
         at = bisect_right(self.lows, address) - 1
         if at < 0 or address >= self.maps[at].high or any(low <= address < high for low, high in self.shared):
             return None

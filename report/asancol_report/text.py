@@ -9,6 +9,7 @@ from .class_names import TITLES
 from .crashes import own_calls
 from .findings import Block, BY_RECORDER, Finding, Frame, place_text, Stack, Threads
 from .functions import brief
+from .leaks import text_of_runs
 from .results import Process, Results, Run
 from .stacks import folded, rows_of, window
 from .suppressions import suppression_of
@@ -182,9 +183,11 @@ class Text:
             for trouble in run.troubles:
                 yield f"asancol: {self.run_name(run, results)}{printable(trouble)}"
         yield f"{self.colors.bold}{totals_line(results)}{self.colors.off}"
-        leaks = results.totals().leaks
-        if leaks.places:
-            yield f"asancol: {leaks}; --leaks=yes shows them"
+        totals = results.totals()
+        if totals.leaks.places:
+            yield f"asancol: {text_of_runs(run.leaks for run in results.runs)}; --leaks=yes shows them"
+        if totals.crashes_awaited:
+            yield f"asancol: {awaited_text(totals.crashes_awaited)}"
         for rule in results.unused:
             yield f"asancol: a suppression matched nothing: {printable(rule)}"
         if results.gone:
@@ -265,6 +268,13 @@ def seen_text(results: Results, finding: Finding) -> str:
     if seen.first:
         text += f", first {date_and_time(seen.first)}" + (f" on {seen.first_machine}" if seen.first_machine else "")
     return text
+
+
+def awaited_text(count: int) -> str:
+    """Returns what is said of crashes that do not count, since parents have waited for them. asancol-run says the same
+    of one run (`say_awaited`)."""
+    how, whom = ("a signal that its parent", "it") if count == 1 else ("signals that their parents", "them")
+    return f"{plural(count, 'process')} ended by {how} waited for; --crashes shows {whom}"
 
 
 def totals_line(results: Results) -> str:

@@ -37,9 +37,9 @@ _asancol_report() {
         ;;
     esac
     if [[ $word == -* ]]; then
-        mapfile -t COMPREPLY < <(compgen -W '--json --sarif --junit --codequality --html --live --source-root --color
-            --full-stacks --shadow --unchecked --no-machines --quiet --leaks --suppressions --gen-suppressions --baseline
-            --trace --quarantine --memory --limit --run --help --version' -- "$word")
+        mapfile -t COMPREPLY < <(compgen -W '--json --sarif --junit --codequality --html --live --crashes --source-root
+            --color --full-stacks --shadow --unchecked --no-machines --quiet --leaks --suppressions --gen-suppressions
+            --baseline --trace --quarantine --memory --limit --run --help --version' -- "$word")
     else
         local end='*.jsonl'
         [[ " ${COMP_WORDS[*]} " == *' --trace '* ]] && end='*.trace'

@@ -10,6 +10,7 @@ complete -c asancol-report -l junit -r -F -d 'JUnit XML: a test case for each ru
 complete -c asancol-report -l codequality -r -F -d 'a Code Quality report of GitLab'
 complete -c asancol-report -l html -r -F -d 'a page that needs no other file and no network'
 complete -c asancol-report -l live -d 'print the first report of each place when it comes'
+complete -c asancol-report -l crashes -d 'crashes that a parent waited for, too'
 complete -c asancol-report -l source-root -x -a '(__fish_complete_directories)' -d 'show files under DIR by their paths from there'
 complete -c asancol-report -l color -x -a 'auto always never' -d 'colors: auto, always or never'
 complete -c asancol-report -l full-stacks -d 'print all frames of a stack, and whole names'

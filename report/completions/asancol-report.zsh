@@ -11,6 +11,7 @@ _arguments -S \
     '--codequality=[a Code Quality report of GitLab]:file:_files' \
     '--html=[a page that needs no other file and no network]:file:_files' \
     '--live[print the first report of each place when it comes]' \
+    '--crashes[crashes that a parent waited for, too]' \
     '--source-root=[show files under DIR by their paths from there]:folder:_files -/' \
     '--color=[colors: auto, always or never]:when:(auto always never)' \
     '--full-stacks[print all frames of a stack, and whole names]' \

@@ -10,6 +10,8 @@ import subprocess
 import zlib
 from typing import Any, Dict, Iterator, List, NamedTuple, Optional, Tuple
 
+from testing.programs import Started, killed_after
+
 NAMES = ("chromium", "chromium-browser", "google-chrome")
 
 # What is asked of the page, one after the other.
@@ -131,8 +133,8 @@ class Browser:
         line = f'exec "$0" "$@" 3<&{theirs_in} 4>&{theirs_out}'
         argv = [tool, "--headless", "--no-sandbox", "--disable-gpu", "--no-first-run", "--window-size=380,800",
                  "--disable-background-networking", f"--user-data-dir={folder}/browser", "--remote-debugging-pipe"]
-        self.child = subprocess.Popen(["bash", "-c", line, *argv], pass_fds=[theirs_in, theirs_out],
-                                      stdout=subprocess.DEVNULL, stderr=subprocess.DEVNULL)
+        self.child = Started(["bash", "-c", line, *argv], pass_fds=[theirs_in, theirs_out],
+                             stdout=subprocess.DEVNULL, stderr=subprocess.DEVNULL)
         os.close(theirs_in)
         os.close(theirs_out)
         self.rest = b""
@@ -141,7 +143,8 @@ class Browser:
 
     def message(self) -> Dict[str, Any]:
         while b"\0" not in self.rest:
-            piece = os.read(self.ours_in, 1 << 16)
+            with killed_after(self.child.pid):
+                piece = os.read(self.ours_in, 1 << 16)
             if not piece:
                 raise EOFError("Chromium has ended")
             self.rest += piece

@@ -143,6 +143,32 @@ def crash_is_suppressed_by_its_class(folder: str) -> None:
 
 
 @report_test
+def crash_that_was_waited_for_does_not_count(folder: str) -> None:
+    """It is one line in the text, and data in the others. At the place of one that counts it is a place by itself."""
+    program = build(folder)
+    feed = Feed(folder, "--source-root", ".", "--json", "a.jsonl")
+    feed.begin()
+    for number, fields in enumerate(({"awaited": True}, {"awaited": True}, {})):
+        feed.process(number, NO_REPORTS, crashed(program, "use"), signal=11, fate="no-close", why="ended by SIGSEGV",
+                     **fields)
+    ran = feed.end()
+    line = "asancol: 2 processes ended by signals that their parents waited for; --crashes shows them\n"
+    expect_in(ran.out, "asancol: process 102 ./program: ended by SIGSEGV", "all complete, 1 crashed\n" + line,
+              "SUMMARY: asancol: SEGV")
+    expect(report(folder, "a.jsonl", "--source-root", ".").out, ran.out, "read again")
+    shown = report(folder, "a.jsonl", "--source-root", ".", "--crashes").out
+    expect_in(shown, "asancol: 3 processes (100, 101, 102) ./program: ended by SIGSEGV", "all complete, 3 crashed\n")
+    expect_not_in(shown, line)
+    document = json.loads(report(folder, "a.jsonl", "--sarif", "-").out)
+    found = [("suppressions" in it, it["occurrenceCount"]) for it in document["runs"][0]["results"]]
+    expect(found, [(True, 2), (False, 1)], "SARIF")
+    expect(len(json.loads(report(folder, "a.jsonl", "--codequality", "-").out)), 1, "Code Quality")
+    report(folder, "a.jsonl", "--html", "page")
+    with open(f"{folder}/page", encoding="utf-8") as page:
+        expect_in(page.read(), "its parent has waited for it, and the command ended with status 0")
+
+
+@report_test
 def crash_is_known_from_a_baseline(folder: str) -> None:
     feed_crashes(folder, "--json", "a.jsonl").end()
     ran = report(folder, "a.jsonl", "--baseline", "a.jsonl")

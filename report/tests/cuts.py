@@ -2,10 +2,12 @@
 
 import json
 import os
+import threading
 import xml.dom.minidom
 from typing import List
 
 from testing import expect, expect_in
+from testing.programs import join
 from testing.reports import END, FREED, Feed, report, report_test, write_trace
 
 
@@ -107,6 +109,31 @@ def cut_by_asancol_run(folder: str) -> None:
         write(folder, "raw.jsonl", "".join(json.dumps(entry) + "\n" for entry in entries[:count]))
         ran = report(folder, "raw.jsonl")
         expect(ran.status, status, f"{count} lines: {ran.out}")
+
+
+@report_test
+def odd_files(folder: str) -> None:
+    """What a folder lists is read if it is a regular file, and else named; no line is read without a bound."""
+    lines = leave_runs(folder)
+    os.makedirs(f"{folder}/odd")
+    write(folder, "odd/0.jsonl", "".join(lines))
+    os.mkfifo(f"{folder}/odd/1.jsonl")
+    os.symlink("/dev/zero", f"{folder}/odd/2.jsonl")
+    os.symlink("../2.jsonl", f"{folder}/odd/3.jsonl")
+    os.symlink("nowhere", f"{folder}/odd/4.jsonl")
+    write(folder, "odd/5.jsonl", "")
+    os.truncate(f"{folder}/odd/5.jsonl", 1 << 40)
+    ran = report(folder, "odd")
+    expect(ran.status, 4, ran.out)
+    expect_in(ran.err, "odd/1.jsonl: not a regular file", "odd/2.jsonl: not a regular file",
+              "odd/4.jsonl: No such file", "odd/5.jsonl:1: a line of more than 67108864 characters")
+    expect_in(ran.out, "3 reports at 3 places; 6 processes in 3 runs", "odd/1.jsonl: INCOMPLETE: ")
+    # By its own name a pipe is read.
+    os.mkfifo(f"{folder}/pipe")
+    writer = threading.Thread(target=write, args=(folder, "pipe", "".join(lines)), daemon=True)
+    writer.start()
+    expect_in(report(folder, "pipe").out, "3 reports at 3 places; 6 processes in 3 runs")
+    join(writer, "who writes")
 
 
 @report_test

@@ -4,6 +4,7 @@ import subprocess
 
 from testing import TOP, expect
 from asancol_report import side
+from testing.programs import call
 from testing.reports import report_test
 
 # What common/format.h and recorder/stacks/stacks.h have, and what stands for it in Python.
@@ -63,8 +64,8 @@ def numbers_are_the_recorders(folder: str) -> None:
     with open(f"{folder}/numbers.c", "w", encoding="utf-8") as file:
         file.write('#include <stdio.h>\n#include "common/format.h"\n#include "stacks/stacks.h"\n'
                    f"int main(void)\n{{\n{lines}    return 0;\n}}\n")
-    subprocess.run(["gcc", f"-I{TOP}", f"-I{TOP}/recorder", f"{folder}/numbers.c", "-o", f"{folder}/numbers"],
-                   check=True)
-    said = subprocess.run([f"{folder}/numbers"], stdout=subprocess.PIPE, check=True, text=True).stdout.split()
+    call(["gcc", f"-I{TOP}", f"-I{TOP}/recorder", f"{folder}/numbers.c", "-o", f"{folder}/numbers"],
+         check=True)
+    said = call([f"{folder}/numbers"], stdout=subprocess.PIPE, check=True, text=True).stdout.split()
     for (text, number), recorder in zip(NUMBERS, said):
         expect(number, int(recorder), text)

@@ -21,6 +21,7 @@ from typing import Callable, List, NamedTuple, Tuple
 sys.path.insert(0, f"{os.path.dirname(os.path.realpath(__file__))}/../..")  # where `testing` is
 
 from testing import TOP, Failure, Suite, reports, side
+from testing.programs import call
 from asancol_report.main import main as report_main
 
 # No reading may take longer, in seconds.
@@ -166,8 +167,8 @@ def damage(count: int, seed: int) -> Tuple[int, int]:
 
 def check_mutations(suite: Suite, folder: str) -> None:
     """A hundred of them, in a process without threads, since each reading is a fork of it."""
-    ran = subprocess.run([sys.executable, __file__, "--count", "100"], cwd=folder, text=True, check=False,
-                         stdout=subprocess.PIPE, stderr=subprocess.STDOUT)
+    ran = call([sys.executable, __file__, "--count", "100"], cwd=folder, text=True, check=False,
+               stdout=subprocess.PIPE, stderr=subprocess.STDOUT)
     if ran.returncode:
         raise Failure(ran.stdout)
 

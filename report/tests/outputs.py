@@ -10,6 +10,7 @@ from typing import Any, Dict, List, Optional, Set, Tuple
 
 import browser
 from testing import expect, expect_in, expect_not_in, leave_out, reports
+from testing.programs import call
 from testing.reports import END, FREED, Feed, build, freed_block, one_trace, report, report_test, write_trace
 from testing.side import fault, of_program, side
 
@@ -204,8 +205,8 @@ def junit_has_its_schema(folder: str) -> None:
     for argv in (["--trace", "a.trace", "b\1<&\".trace", "c.trace"], ["--trace", "a.trace", "a.trace"],
                   ["--trace", "a.trace", "c.trace", "--no-machines"]):
         report(folder, *argv, "--junit", "out.xml")
-        ran = subprocess.run(["xmllint", "--noout", "--schema", schema, "out.xml"], cwd=folder, capture_output=True,
-                             text=True, check=False)
+        ran = call(["xmllint", "--noout", "--schema", schema, "out.xml"], cwd=folder, capture_output=True,
+                   text=True, check=False)
         expect(ran.returncode, 0, ran.stderr)
 
 
@@ -350,7 +351,7 @@ def outputs_are_whole(folder: str) -> None:
     with open(f"{folder}/real", "rb") as one, open(f"{folder}/a.jsonl", "rb") as other:
         expect(one.read(), other.read(), "through the link")
     with open("/dev/full", "wb") as full:
-        filled = subprocess.run([reports.REPORT, "a.jsonl"], cwd=folder, stdout=full, stderr=subprocess.PIPE,
-                                check=False)
+        filled = call([reports.REPORT, "a.jsonl"], cwd=folder, stdout=full, stderr=subprocess.PIPE,
+                      check=False)
     expect((filled.returncode, filled.stderr), (4, b"asancol-report: standard output: No space left on device\n"),
            "the text")

@@ -7,12 +7,12 @@ import random
 import re
 import shutil
 import signal
-import subprocess
 import time
 import xml.dom.minidom
 from typing import Any, Dict, List, Optional, Tuple
 
 from testing import NO_SETTINGS, expect, expect_in, expect_not_in, leave_out, reports, wait_until
+from testing.programs import Started
 from testing.reports import END, FREED, OVERFLOW, Feed, build, freed_block, one_trace, report, report_test, write_trace
 from testing.side import fault, of_program, side
 
@@ -63,8 +63,17 @@ def trace_without_side_file(folder: str) -> None:
     expect(ran.status, 1, "status")
     expect_in(ran.out, "heap-use-after-free: load of 4 bytes", "#0 its place was not recorded", "address 0x2000",
               "b.trace.where: No such file or directory: record with ASANCOL_WHERE=1")
-    write_trace(folder, "c.trace", FREED + END, [(0, b"ASWH\2\0\0\0"), (1 << 18, b"\0")])
-    expect_in(report(folder, "--trace", "c.trace").out, "c.trace.where is no side file of version 3")
+    for head, size, why in (
+        (b"ASWH\2\0\0\0", 1 << 18, "has version 2, and this release reads 4 to 5"),
+        (b"", 0, "is cut after 0 bytes, as on a full disk"),
+        (b"ASWH\5\0\0\0", 8, "is cut after 8 bytes, as on a full disk"),
+        (b"\x7fELF", 1 << 18, "is no side file: record with"),
+        (b"ASWH\4\0\0\0", 1 << 18, ""),
+    ):
+        write_trace(folder, "c.trace", FREED + END, [(0, head)])
+        os.truncate(f"{folder}/c.trace.where", size)
+        out = report(folder, "--trace", "c.trace").out
+        expect(out.partition("c.trace.where ")[2][:len(why)], why, out)
 
 
 @report_test
@@ -85,6 +94,8 @@ def trace_ends(folder: str) -> None:
         ("closed", side(events=9, starts=1), 3, "ended in a call of the recorder's own, or before an exec"),
         ("no-close", side(ending=0, needed=9), 3, "INCOMPLETE: its trace ended as no-close"),
         ("closed", side(events=9, quarantine=5), 0, "held back 5 bytes of freed memory (ASANCOL_QUARANTINE)"),
+        ("closed", side(events=9, used_again=1234567890), 0, "all complete\nasancol: process 7 ./program: handed out "
+         "freed memory again after 1.2 GB of blocks, so later uses after free may be missed\n"),
         ("no-close", side(ending=3, signal=6, events=10), 3, "INCOMPLETE: its trace ended as no-close"),
         ("no-close", side(ending=4, events=9), 3, "INCOMPLETE: its recording ended early"),
         ("too-many", side(left_out=21, events=9), 3, "reached the event limit: 21 of 30 events were not recorded"),
@@ -95,6 +106,25 @@ def trace_ends(folder: str) -> None:
         ran = report(folder, "--trace", "d.trace")
         expect(ran.status, status, fate + ran.out)
         expect_in(ran.out, text)
+
+
+@report_test
+def memory_that_came_again(folder: str) -> None:
+    """It is a field of the process in the result, and a line, also of results that are read again."""
+    for name, parts in (("a", side(events=9, used_again=6815744)), ("b", side(events=9))):
+        write_trace(folder, f"{name}.trace", "p0 end closed events 9 offset 99 reports 0\n", parts)
+        report(folder, "--trace", f"{name}.trace", "--json", f"{name}.jsonl")
+    ran = report(folder, "a.jsonl", "b.jsonl", "--json", "both.jsonl", "--html", "page", "--sarif", "out.sarif")
+    line = "process 7 ./program: handed out freed memory again after 6.8 MB of blocks"
+    expect((ran.status, ran.out.count(line)), (0, 1), ran.out)
+    with open(f"{folder}/both.jsonl", encoding="utf-8") as file:
+        processes = [it for it in map(json.loads, file) if it["type"] == "process"]
+    expect([it.get("used_again") for it in processes], [6815744, None], "the field")
+    for name in ("page", "out.sarif"):
+        with open(f"{folder}/{name}", encoding="utf-8") as file:
+            expect_in(file.read(), line)
+    expect(report(folder, "both.jsonl").out, ran.out, "read again")
+    expect(report(folder, "both.jsonl", "-q").out, "", "quiet")
 
 
 @report_test
@@ -134,8 +164,8 @@ def trace_is_interrupted(folder: str) -> None:
     """What is typed at the terminal ends all that checks a trace."""
     write_trace(folder, "a.trace", FREED + END)
     reports.write_text(f"{folder}/asancol", f"#!/bin/sh\necho $$ > {folder}/checker\nexec sleep 99\n", 0o755)
-    started = subprocess.Popen([reports.REPORT, "--trace", "a.trace"], cwd=folder, env=reports.settings_in(folder),
-                               start_new_session=True)
+    started = Started([reports.REPORT, "--trace", "a.trace"], cwd=folder, env=reports.settings_in(folder),
+                      start_new_session=True)
     wait_until(lambda: os.path.exists(f"{folder}/checker") and os.path.getsize(f"{folder}/checker") > 0, "a checker")
     os.killpg(started.pid, signal.SIGINT)
     expect(started.wait(), -signal.SIGINT, "status")

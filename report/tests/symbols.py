@@ -6,6 +6,7 @@ import re
 import shutil
 
 from testing import expect, expect_in, expect_not_in, reports
+from testing.programs import killed_after
 from testing.reports import END, FREED, OVERFLOW, Feed, build, freed_block, one_trace, report, report_test, write_trace
 from testing.side import fault, of_program, side
 
@@ -46,15 +47,15 @@ def program_is_gone_at_the_end(folder: str) -> None:
     feed.begin()
     program = build(folder)
     feed.process(0, FREED + END, of_program(program, [freed_block(program)], [0, 0, 0, 0, 1]))
-    assert feed.child.stdout is not None
-    expect_in(feed.child.stdout.readline().decode(), "ERROR")
+    expect_in(feed.child.line().decode(), "ERROR")
     os.unlink(program.path)
     program = build(folder, "program", "\n" + reports.PLACES_C)
     feed.process(1, FREED + END, of_program(program, [freed_block(program)], [0, 0, 0, 0, 1]))
     printed = feed.child.stdout
     assert isinstance(printed, io.BufferedReader)
-    while b"seen" not in printed.peek(1) and b"program.c:8" not in printed.readline():
-        pass
+    with killed_after(feed.child.pid):
+        while b"seen" not in printed.peek(1) and b"program.c:8" not in (line := printed.readline()):
+            expect(line != b"", True, "that it goes on")
     os.unlink(program.path)
     ran = feed.end()
     expect_in(ran.out, "2 reports at 2 places")
