@@ -97,8 +97,9 @@ enum { SIDE_ASKS = 0, SIDE_QUESTION = 2 };
 /* How a process has ended; or it goes on in the next segment, since the limit of events was reached. */
 enum ending { ENDING_NONE, ENDING_EXIT, ENDING_EXEC, ENDING_SIGNAL, ENDING_LOST, ENDING_SEGMENT };
 
-/* What lies nearest to a bad access, if it is no block. */
-enum variable { VARIABLE_NONE, VARIABLE_STACK, VARIABLE_GLOBAL, VARIABLE_DYNAMIC };
+/* What lies nearest to a bad access, if it is no block; or a block whose notes went back since it was freed: then its
+   size is the most that it had, and without a start nothing else is known. */
+enum variable { VARIABLE_NONE, VARIABLE_STACK, VARIABLE_GLOBAL, VARIABLE_DYNAMIC, VARIABLE_FORGOTTEN };
 
 /* What the recorder has found by itself. No event shows it, so its entry in the list of faults has none. */
 enum finding_kind {
@@ -161,7 +162,7 @@ struct side {
     uint32_t is_at_limit; /* 1: an event found no room */
     uint32_t fault_count; /* how many faults are in the list */
     uint32_t stack_words; /* how many words of the stacks are in use, with the first, which is of no stack */
-    uint64_t quarantine;  /* how many bytes of freed blocks are held */
+    uint64_t quarantine;  /* how many bytes of freed blocks the checker is to hold */
     char argv[SIDE_ARGV]; /* of the command line, each ended by a zero, and a zero after them */
     /* Of the signal that has ended it: */
     uint64_t last;          /* one more than the address of the last instruction; 0: not known */
@@ -218,6 +219,8 @@ struct side_settings {
     uint64_t limit;  /* how many events a segment may have; 0: it is not noted */
     uint32_t is_one; /* 1: there is one segment, and the limit ends the recording */
     uint32_t halt;   /* as ASANCOL_HALT has it */
+    uint32_t is_lean; /* 1: mallocs and frees are recorded where a fault needs them, so nothing is held for its bound */
+    uint32_t spare;
 };
 
 /* A thread that is not known. */

@@ -320,7 +320,7 @@ int main(int count, char **argv)
         .is_running = collected.is_running,
         .has_timed_out = collected.has_timed_out,
         .lost = nested.lost,
-        .notes = lowered_lines(&options, sum.recorded > 0),
+        .notes = lowered_lines(&options, true),
     };
     outcome.troubles = troubles_of(&outcome);
     bool is_incomplete = is_cut_short(&sum, &outcome);

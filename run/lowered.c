@@ -19,13 +19,19 @@ struct line {
     size_t count;
 };
 
+/* In lean recording nothing is held for its bound, and a process that came to it has another line (add_used_again). */
+static bool has_held_less(const struct process *process, uint64_t bound)
+{
+    return process->settings.is_lean == 0 && process->quarantine < bound;
+}
+
 /* What a process has lowered: the text is empty if it is nothing. */
 static void describe(char *text, size_t room, const struct process *process, const struct options *options)
 {
     const char *halt = getenv("ASANCOL_HALT");
     bool may_halt = halt != NULL && *halt != 0 && strcmp(halt, "0") != 0;
     text[0] = 0;
-    if (process->quarantine < options->held)
+    if (has_held_less(process, options->held))
         snprintf(text, room,
                  "held back %" PRIu64 " byte%s of freed memory (ASANCOL_QUARANTINE), so uses after free may be missed",
                  process->quarantine, plural(process->quarantine, "s"));
@@ -78,29 +84,36 @@ static void add_used_again(struct strings *texts)
         strings_add(texts, made(&line));
 }
 
-struct strings lowered_lines(const struct options *options, bool has_recorded)
+/* What was lowered for the run. */
+static void add_for_all(struct strings *texts, const struct options *options)
+{
+    char *all;
+    if (asprintf(&all, "%" PRIu64 " byte%s of freed memory %s held back (%s), so uses after free may be missed",
+                 options->held, plural(options->held, "s"), options->held == 1 ? "is" : "are",
+                 options->quarantine != NULL ? "--quarantine" : "ASANCOL_QUARANTINE") < 0)
+        must(NULL);
+    strings_add(texts, all);
+}
+
+struct strings lowered_lines(const struct options *options, bool is_of_run)
 {
     struct line lines[MAX_LINES];
     struct strings texts = {0};
     size_t count = 0;
     char text[sizeof lines->text];
-    if (has_recorded && options->held < QUARANTINE_BOUND) {
-        char *all;
-        if (asprintf(&all, "%" PRIu64 " byte%s of freed memory %s held back (%s), so uses after free may be missed",
-                     options->held, plural(options->held, "s"), options->held == 1 ? "is" : "are",
-                     options->quarantine != NULL ? "--quarantine" : "ASANCOL_QUARANTINE") < 0)
-            must(NULL);
-        strings_add(&texts, all);
-    }
+    bool is_for_all = false;
     for (size_t i = 0; i < process_count(); i++) {
         const struct process *process = process_at(i);
         if (process->first_seen != process || process->is_mark)
             continue;
         struct process joined = segments_joined(process);
+        is_for_all |= has_held_less(&joined, QUARANTINE_BOUND) && joined.quarantine == options->held;
         describe(text, sizeof text, &joined, options);
         if (text[0] != 0)
             note(lines, &count, process, text);
     }
+    if (is_of_run && is_for_all)
+        add_for_all(&texts, options);
     for (size_t i = 0; i < count; i++)
         strings_add(&texts, made(&lines[i]));
     add_used_again(&texts);

@@ -8,7 +8,7 @@
 
 #include "options.h"
 
-/* A line for each bound and value, once all processes are done. */
-struct strings lowered_lines(const struct options *options, bool has_recorded);
+/* A line for each bound and value, once all processes are done. Files are of no run. */
+struct strings lowered_lines(const struct options *options, bool is_of_run);
 
 #endif

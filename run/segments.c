@@ -193,6 +193,10 @@ static const struct process *add_up(struct process *joined, const struct process
         joined->leaks += at->leaks;
         if (joined->used_again == 0)
             joined->used_again = at->used_again;
+        if (at->settings.is_lean == 0) { /* it has gone over to that */
+            joined->settings.is_lean = 0;
+            joined->quarantine = at->quarantine;
+        }
         joined->left_out += at->left_out;
         joined->has_checks |= at->has_checks;
         joined->segments++;

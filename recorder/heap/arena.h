@@ -255,10 +255,11 @@ struct nearest {
     uintptr_t start;
     uint64_t size;
     struct call_sites call_sites;
+    bool is_forgotten; /* its notes went back: it had so many bytes at most, or nothing is known if it has no start */
 };
 
 /* Without a lock, at any time: the notes may change meanwhile, and then what it answers is of no use. False: no block
-   is near. */
+   is near, and none was there. */
 bool arena_find_nearest(uintptr_t address, struct nearest *found);
 /* Likewise the block in whose slot or run an address is, live or held, and where it begins. */
 bool arena_find_around(uintptr_t address, struct block *block, uintptr_t *start);

@@ -13,7 +13,8 @@
 
    What is stated must not meet what the checker has. If another entry is in the way, the stream goes on in its next
    segment, and the book is empty. So it does if more spans would be held than the checker may hold. Hence the checker
-   never releases a block, and knows of each entry what stands here. */
+   never releases a block, and knows of each entry what stands here. It holds more than the allocator's bound says
+   (held_by_checker); a freed block that is larger than that is stated in pieces, each a block of its own. */
 #include "heap/book.h"
 
 #include <string.h>
@@ -24,7 +25,8 @@
 #include "stream/record.h"
 #include "stream/switching.h"
 
-enum { ENTRIES = 1 << 16 };
+enum { ENTRIES = 1 << 16, PIECE = 1 << 24 };
+_Static_assert(PIECE + 2 * REDZONE <= QUARANTINE_BOUND, "a piece can be held");
 
 struct entry {
     uintptr_t start;
@@ -106,9 +108,25 @@ static struct entry *entry_for(const struct found *block)
     return entry_in(span_start(block->start), span_end(block->start, block->size));
 }
 
-static struct found found_of(const struct block *block)
+static uint64_t most_held(void)
 {
-    return (struct found){(uintptr_t)block_start(block), block->size, block->state == BLOCK_HELD, false};
+    return held_by_checker(atomic_load_explicit(&heap_bound, memory_order_relaxed));
+}
+
+/* Whether the checker would hold a block of this size once it is freed. */
+static bool can_be_held(uint32_t size)
+{
+    return span_bytes(size) <= most_held();
+}
+
+/* The block, or the piece of it that has this address. What it has round its bytes is in no piece. */
+static struct found found_of(const struct block *block, uintptr_t start, uintptr_t address)
+{
+    struct found found = {start, block->size, block->state == BLOCK_HELD, false};
+    if (!found.is_held || can_be_held(block->size) || address - start >= block->size)
+        return found;
+    uint32_t into = (uint32_t)(address - start) / PIECE * PIECE, rest = block->size - into;
+    return (struct found){start + into, rest < PIECE ? rest : PIECE, true, false};
 }
 
 /* How often the unit there was opened, which is to hand out slots of it again. */
@@ -139,7 +157,7 @@ static struct entry *state_malloc(uintptr_t start, uint32_t size)
 static bool state_free(struct entry *entry)
 {
     uint64_t held = book.held_bytes + span_bytes(entry->size);
-    if (held > atomic_load_explicit(&heap_bound, memory_order_relaxed) || !record_here(CODE_FREE, entry->start, 0))
+    if (held > most_held() || !record_here(CODE_FREE, entry->start, 0))
         return false;
     entry->is_held = true;
     book.held_bytes = held;
@@ -162,13 +180,7 @@ static bool state_block(const struct found *block)
     return is_stated;
 }
 
-/* Whether the checker would hold a block of this size once it is freed. */
-static bool can_be_held(uint32_t size)
-{
-    return span_bytes(size) <= atomic_load_explicit(&heap_bound, memory_order_relaxed);
-}
-
-/* The block whose span has an address. False: there is none, or none that the checker would hold. */
+/* The block whose span has an address, or its piece. False: there is none, or none that the checker would hold. */
 static bool find(uintptr_t address, struct found *found)
 {
     struct block block;
@@ -179,8 +191,8 @@ static bool find(uintptr_t address, struct found *found)
     }
     if (!arena_find_around(address, &block, &start) || block.state == BLOCK_UNRECORDED)
         return false;
-    *found = (struct found){start, block.size, block.state == BLOCK_HELD, false};
-    return (!found->is_held || can_be_held(block.size)) && address >= span_start(start)
+    *found = found_of(&block, start, address);
+    return (!found->is_held || can_be_held(found->size)) && address >= span_start(start)
            && address < span_end(start, block.size);
 }
 
@@ -327,7 +339,8 @@ static bool state_freed(const struct block *block, const struct entry *entry)
 {
     if (block == NULL)
         return entry == NULL;
-    struct found found = found_of(block);
+    uintptr_t start = (uintptr_t)block_start(block);
+    struct found found = found_of(block, start, start);
     return state_block(&found);
 }
 
@@ -346,8 +359,6 @@ enum stating book_state_free(uint64_t address)
     unsigned segment = atomic_load(&STREAM->segment);
     if (block != NULL && is_in_use(block))
         return STATING_NOT_NEEDED;
-    if (block != NULL && !can_be_held(block->size))
-        block = NULL;
     struct entry *entry = entry_in(address, address + 1);
     if (entry != NULL && entry->start != address)
         entry = NULL; /* a block around it is in nobody's way */

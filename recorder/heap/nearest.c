@@ -38,12 +38,23 @@ static struct block forgotten_in(uint32_t slot_size)
     return block;
 }
 
-static struct block block_now(const struct slot *slot)
+static struct block noted_now(const struct slot *slot)
 {
     const struct block *block = &arena.blocks[slot->block];
     struct block now = {.size = NOTE_NOW(block->size), .large_size = NOTE_NOW(block->large_size)};
     now.all_bits = NOTE_NOW(block->all_bits);
-    return slot->forgotten_size != 0 && now.state == BLOCK_FREE ? forgotten_in(slot->forgotten_size) : now;
+    return now;
+}
+
+static bool is_forgotten(const struct slot *slot, const struct block *noted)
+{
+    return slot->forgotten_size != 0 && noted->state == BLOCK_FREE;
+}
+
+static struct block block_now(const struct slot *slot)
+{
+    struct block noted = noted_now(slot);
+    return is_forgotten(slot, &noted) ? forgotten_in(slot->forgotten_size) : noted;
 }
 
 static struct call_sites call_sites_now(size_t number)
@@ -128,7 +139,9 @@ static bool look_at(const struct slot *slot, uintptr_t address, uint64_t *least,
 {
     if (slot->block == 0)
         return false;
-    struct block block = block_now(slot);
+    struct block noted = noted_now(slot);
+    bool is_gone = is_forgotten(slot, &noted);
+    struct block block = is_gone ? forgotten_in(slot->forgotten_size) : noted;
     uintptr_t start = block_address(&block, slot->start);
     uint64_t size = block.state == BLOCK_UNRECORDED ? block.large_size : block.size;
     uint64_t far = distance_of(address, start, size);
@@ -136,7 +149,7 @@ static bool look_at(const struct slot *slot, uintptr_t address, uint64_t *least,
         return false;
     if (far < *least || (far == *least && start < found->start)) {
         *least = far;
-        *found = (struct nearest){start, size, call_sites_now(slot->block)};
+        *found = (struct nearest){start, size, call_sites_now(slot->block), is_gone};
     }
     return true;
 }
@@ -145,9 +158,9 @@ bool arena_find_nearest(uintptr_t address, struct nearest *found)
 {
     struct slot here, slot;
     uint64_t least = UINT64_MAX;
-    *found = (struct nearest){0, 0, {0, 0}};
-    if (!find_slot(address, &here) || retiring_forgot(address))
-        return false;
+    *found = (struct nearest){.is_forgotten = retiring_forgot(address)};
+    if (found->is_forgotten || !find_slot(address, &here))
+        return found->is_forgotten;
     look_at(&here, address, &least, found);
     uintptr_t last = here.start - 1, next = here.end;
     for (int i = 0; i < MOST_SLOTS && address - last <= least && find_slot(last, &slot); i++, last = slot.start - 1)

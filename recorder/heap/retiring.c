@@ -114,6 +114,12 @@ static uint32_t *find_kept(uint32_t least, uint32_t most)
     return NULL;
 }
 
+/* After so many bytes of blocks' memory, big blocks' too. */
+static void note_reuse(void)
+{
+    side_note_reuse(((uint64_t)arena.top + (arena.big_top - FIRST_BIG)) * UNIT);
+}
+
 /* The rest of a longer run is used no more. So that is taken only if there is none of this length. */
 uint32_t retiring_take_back(uint32_t count)
 {
@@ -130,7 +136,7 @@ uint32_t retiring_take_back(uint32_t count)
         SET_NOTE(heap.retired[at / REGION_UNITS], heap.retired[at / REGION_UNITS] - 1);
     SET_NOTE(unit->form, FORM_NONE);
     arena_forget(number);
-    side_note_reuse((uint64_t)arena.top * UNIT);
+    note_reuse();
     return number;
 }
 
@@ -403,7 +409,7 @@ uint32_t retiring_take_listed(unsigned class)
         SET_NOTE(unit->form, FORM_OPEN); /* from now on nobody looks at its pages */
         set_dead(unit, 0);
         unit->given = 0;
-        side_note_reuse((uint64_t)arena.top * UNIT);
+        note_reuse();
         return number;
     }
     return 0;

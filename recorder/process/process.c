@@ -214,13 +214,14 @@ bool recorder_end_waiting(void)
     return has_begun;
 }
 
-/* Records what stands, in this segment if that has nothing yet, and else in the next one. */
+/* Records what stands: in this segment, if that has nothing yet and its checker holds no more; else in the next one. */
 static bool begin_full(void)
 {
     bool has_events = atomic_load(&STREAM->cursor) >= (CURSOR_ON | CURSOR_EVENT);
-    if (!has_events)
-        heap_snapshot(UINT64_MAX, stream_snapshot_room());
-    return !has_events || switching_begin_anew();
+    if (has_events || process.settings.quarantine < QUARANTINE_BOUND)
+        return switching_begin_anew();
+    heap_snapshot(UINT64_MAX, stream_snapshot_room());
+    return true;
 }
 
 bool recorder_go_full(void)

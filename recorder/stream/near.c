@@ -152,6 +152,7 @@ void near_block(struct list *list, uint64_t address, struct side_fault *fault)
     struct nearest block;
     if (!arena_find_nearest(address, &block))
         return;
+    fault->variable = block.is_forgotten ? VARIABLE_FORGOTTEN : VARIABLE_NONE;
     fault->block = block.start;
     fault->block_size = block.size;
     fault->allocated = call_site_address(block.call_sites.allocated);

@@ -105,6 +105,16 @@ static void say_other_name(const char *asked)
     recorder_say("the trace goes to ", locked.trace.path, why);
 }
 
+/* What is stated of one access has to fit into a segment, with what other threads record there meanwhile. */
+enum { LEAST_LEAN_LIMIT = 16 };
+
+/* Before the first side memory, which says so. */
+static void go_way(enum way way, const struct settings *settings)
+{
+    plan.way = way;
+    atomic_store(&lean_is_on, !settings->is_full && has_segments() && settings->limit >= LEAST_LEAN_LIMIT);
+}
+
 static const char *open_trace(const struct settings *settings)
 {
     struct window window = windows_of_stream(locked.window);
@@ -115,7 +125,7 @@ static const char *open_trace(const struct settings *settings)
         why = output_connect(&locked.trace, settings->socket, false, window, settings->patience_ms);
     if (why != NULL)
         return why;
-    plan.way = settings->trace == NULL ? WAY_SOCKET : locked.trace.is_mapped ? WAY_FILE : WAY_PIECES;
+    go_way(settings->trace == NULL ? WAY_SOCKET : locked.trace.is_mapped ? WAY_FILE : WAY_PIECES, settings);
     if (settings->trace != NULL && settings->hub == NULL)
         say_other_name(settings->trace);
     if (settings->with_side)
@@ -130,7 +140,7 @@ static const char *open_output(const struct settings *settings)
         return "there is no room for it";
     if (settings->hub == NULL)
         return open_trace(settings);
-    plan.way = WAY_HUB;
+    go_way(WAY_HUB, settings);
     const char *why = opening_hub(settings);
     if (why == NULL || settings->trace == NULL)
         return why;
@@ -178,9 +188,6 @@ static void begin_process(const struct settings *settings)
         segments_begin(&locked.trace);
 }
 
-/* What is stated of one access has to fit into a segment, with what other threads record there meanwhile. */
-enum { LEAST_LEAN_LIMIT = 16 };
-
 bool stream_begin(const struct settings *settings)
 {
     plan.settings = settings;
@@ -193,7 +200,6 @@ bool stream_begin(const struct settings *settings)
         unseen_note(settings->hub, why);
         return false;
     }
-    atomic_store(&lean_is_on, !settings->is_full && has_segments() && settings->limit >= LEAST_LEAN_LIMIT);
     begin_process(settings);
     opening_segment();
     atomic_store(&STREAM->window, locked.window);

@@ -150,10 +150,11 @@ void side_note_reuse(uint64_t bytes)
 static void note_settings(struct side *side, const struct settings *settings)
 {
     struct side_settings *noted = (struct side_settings *)((unsigned char *)side + SIDE_SETTINGS);
-    side->quarantine = settings->quarantine;
+    side->quarantine = held_by_checker(settings->quarantine);
     noted->limit = settings->limit;
     noted->is_one = settings->segments == 0;
     noted->halt = settings->halt;
+    noted->is_lean = is_lean();
 }
 
 void side_begin(unsigned char *bytes, uint64_t segment, const struct settings *settings)

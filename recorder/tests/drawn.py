@@ -17,7 +17,7 @@ SEEDS = (1, 2, 3)
 LEAST = OPERATIONS // 200
 # The smallest segment has room for all of this quarantine: so the same memory is handed out in any number of segments.
 QUARANTINE = "100000"
-# And this one holds all that they free.
+# And this one, which a checker of a lean recording has, holds all that they free.
 ALL_HELD = "268435456"
 SEGMENTS = ("5000", "60000")
 
@@ -64,7 +64,8 @@ def recorded(suite: Suite, folder: str, program: str, seed: int, threads: int, q
     argv = ["setarch", "-R", f"./{program}", str(seed), str(OPERATIONS), str(threads)]
     ran = run(argv, folder, ASANCOL_TRACE=trace, ASANCOL_QUARANTINE=quarantine, **settings)
     expect((ran.returncode, ran.stderr), (0, b""), " ".join(argv))
-    return faults_of(suite, f"{folder}/{trace}", quarantine)
+    is_lean = settings.get("ASANCOL_FULL") == "0" and program != "every"
+    return faults_of(suite, f"{folder}/{trace}", ALL_HELD if is_lean else quarantine)
 
 
 def check_drawn(suite: Suite, folder: str, compiler: Compiler, level: str, threads: int) -> None:

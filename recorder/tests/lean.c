@@ -264,13 +264,34 @@ static void limited(int rounds)
     printf("%d\n", count);
 }
 
+/* A block that is larger than what a checker holds, in several places, and twice in one. */
+static void large(int rounds)
+{
+    enum { LARGE = 300 << 20, FAR = 20 << 20 };
+    for (int i = 0; i < rounds; i++) {
+        volatile char *block = hide(malloc(LARGE));
+        block[0] = block[LARGE - 1] = 1;
+        (void)block[LARGE];
+        free((void *)block);
+        (void)block[0];
+        (void)block[100];
+        (void)block[FAR];
+        (void)block[FAR + 8];
+        (void)block[100];
+        (void)block[LARGE - 1];
+        (void)block[-1];
+        free((void *)block);
+        free((void *)block);
+    }
+}
+
 static const struct {
     const char *name;
     void (*run)(int rounds);
 } programs[] = {
     {"handlers", handlers}, {"frees", frees}, {"turns", turns}, {"vforks", vforks},       {"vfork_frees", vfork_frees},
     {"stacks", stacks},     {"jumps", jumps}, {"exits", exits}, {"scattered", scattered}, {"wrong_after", wrong_after},
-    {"limited", limited}};
+    {"limited", limited},   {"large", large}};
 
 int main(int count, char **argv)
 {

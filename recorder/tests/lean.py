@@ -71,7 +71,7 @@ def check_jumps(suite: Suite, folder: str, program: str) -> None:
         ran = run(["sh", "-c", f"rm -f t.*; {program} {words}"], folder, ASANCOL_TRACE="t.trace", ASANCOL_FULL="0",
                   ASANCOL_QUARANTINE="1000")
         expect((ran.returncode, ran.stderr), (0, b""), words)
-        found = kinds_under(suite, folder, "1000")
+        found = kinds_under(suite, folder)
         if words == "exits 10":  # the block may have left the quarantine
             found = {kind.replace("bad-free", "double-free"): number for kind, number in found.items()}
         expect(found, wanted[words], words)
@@ -87,19 +87,22 @@ def check_stacks(suite: Suite, folder: str, program: str) -> None:
 def kinds_of_turns(suite: Suite, folder: str, program: str, full: str, quarantine: str) -> Dict[str, int]:
     settings = {"ASANCOL_TRACE": "t.trace", "ASANCOL_QUARANTINE": quarantine, "ASANCOL_FULL": full}
     run(["sh", "-c", f"rm -f t.*; {program} turns 500"], folder, **settings)
-    return kinds_under(suite, folder, quarantine)
+    return kinds_under(suite, folder)
 
 
 def check_turns(suite: Suite, folder: str, program: str) -> None:
-    """Each use of a freed block is one, as if all was held, also if the checker can hold hardly any; and each fault is
-    there if it can hold none."""
+    """Each use of a freed block is one, as if all was held, also if nothing may be: its memory was not used again."""
     wanted = kinds_of_turns(suite, folder, program, "1", "268435456")
-    for quarantine in ("200", "2000", "268435456"):
+    for quarantine in ("0", "72", "200", "2000", "268435456"):
         kinds = kinds_of_turns(suite, folder, program, "0", quarantine)
         expect(kinds, wanted, f"with a quarantine of {quarantine}")
-    for quarantine in ("0", "72"):
-        kinds = kinds_of_turns(suite, folder, program, "0", quarantine)
-        expect(sum(kinds.values()), 1500, f"faults with a quarantine of {quarantine}")
+
+
+def check_large(suite: Suite, folder: str, program: str) -> None:
+    """Likewise in a block of more bytes than a checker holds."""
+    record(suite, folder, [program, "large", "1"], ONE, ASANCOL_FULL="0")
+    kinds = kinds_under(suite, folder)
+    expect(kinds, {"load heap-use-after-free": 6, "load heap-buffer-overflow": 2, "free double-free": 2}, "faults")
 
 
 def check_used_again(suite: Suite, folder: str, program: str) -> None:
@@ -132,7 +135,7 @@ def check_limited(suite: Suite, folder: str, program: str) -> None:
 
 def check_hub(suite: Suite, folder: str, program: str) -> None:
     """What is in the way of a block begins another connection of the process. Each fault is there once."""
-    peers, said = hub.run_under(folder, [program, "turns", "500"], ASANCOL_QUARANTINE="200")
+    peers, said = hub.run_under(folder, [program, "turns", "500"], ASANCOL_QUARANTINE="200", ASANCOL_LIMIT="100")
     sides = [it.side() for it in peers]
     expect((said, len(peers) > 1), (b"", True), f"{len(peers)} connections")
     expect([it.segment for it in sides], list(range(1, len(peers) + 1)), "numbers of segments")
@@ -141,10 +144,11 @@ def check_hub(suite: Suite, folder: str, program: str) -> None:
     expect(sum(len(hub.faults_of(it)) for it in peers), 1500, "faults")
 
 
-def kinds_under(suite: Suite, folder: str, quarantine: str) -> Dict[str, int]:
+def kinds_under(suite: Suite, folder: str) -> Dict[str, int]:
+    """How many faults there are of each kind: a checker of a lean recording is not told how much was held."""
     found: Dict[str, int] = {}
     for name in run(["sh", "-c", "ls t*.trace"], folder).stdout.decode().split():
-        text = run([suite.asancol, "check", "--quarantine", quarantine, name], folder).stdout.decode()
+        text = run([suite.asancol, "check", name], folder).stdout.decode()
         lines = [it.split() for it in text.splitlines()]
         expect([it[2] for it in lines if it[1] == "end"], ["closed"], name)
         for words in (it for it in lines if it[1] != "end" and it[0] != "total"):
@@ -184,6 +188,7 @@ def tests(suite: Suite, compiler: Compiler) -> None:
                                  ("frees", check_frees, lean),
                                  ("jumps", check_jumps, lean),
                                  ("turns", check_turns, lean), ("vforks", check_vforks, lean),
+                                 ("large", check_large, lean),
                                  ("used again", check_used_again, lean), ("limited", check_limited, lean),
                                  ("stacks", check_stacks, lean), ("hub", check_hub, lean)):
         suite.test(f"{compiler} lean {name}", check, program)

@@ -19,6 +19,8 @@ HEAP, STACK, GLOBAL, DYNAMIC = "heap", "stack", "global", "dynamic"
 # A bad byte no further from a block than this is in its own redzone: of another one nobody knows which block was meant.
 REDZONE = 32
 FINGERPRINT_DIGITS = 16
+# Of a block that the recorder has no notes on any more.
+FORGOTTEN = "freed long ago: its exact size and its stacks are no longer kept"
 # Who has judged a report, if it was not the checker.
 BY_RECORDER = "by the recorder"
 # A file of the system, whose inlined functions stand in all programs: in an `include` below `/usr`, here or in a copy.
@@ -152,7 +154,7 @@ class Finding:
     __slots__ = ("class_name", "raw_class", "access", "size", "call", "address", "bad", "shadow", "rows", "stack",
                  "block",
                  "allocated", "freed", "threads", "fingerprint", "runs", "suppression", "is_known", "follows", "also",
-                 "ordinal", "by_recorder", "said")
+                 "ordinal", "by_recorder", "said", "is_forgotten")
 
     def __init__(self, class_name: str, access: str, size: Optional[int], address: int, bad: Optional[int]) -> None:
         self.class_name = class_name
@@ -179,6 +181,7 @@ class Finding:
         self.ordinal = 1  # which of the findings with this fingerprint it is
         self.by_recorder = False  # no checker has judged it: it is the recorder's word
         self.said = ""  # what that is, in words
+        self.is_forgotten = False  # the recorder keeps no notes on the block any more, which was freed long ago
 
     @property
     def counts(self) -> bool:
@@ -299,7 +302,8 @@ class Finding:
         is_inside = 0 <= self.bad_byte - self.block.address < self.block.size
         has_ended = is_inside and self.class_name in ENDED and self.block.kind == STACK
         ended = f", {ENDED[self.class_name]}" if has_ended else ""
-        return beside(self.block, self.bad_byte, in_words(self.block, self.is_in_freed)) + ended + frame
+        whose = in_words(self.block, self.is_in_freed, self.is_forgotten)
+        return beside(self.block, self.bad_byte, whose) + ended + frame
 
     @property
     def where_again(self) -> str:
@@ -387,9 +391,10 @@ def in_short(block: Block) -> str:
     return f"'{shown_name(block.name)}'" if block.name else "the variable"
 
 
-def in_words(block: Block, is_freed: bool) -> str:
+def in_words(block: Block, is_freed: bool, is_forgotten: bool) -> str:
     if block.kind == HEAP:
-        return f"a {'freed ' if is_freed else ''}block of {plural(block.size, 'byte')}"
+        most = "at most " if is_forgotten else ""
+        return f"a {'freed ' if is_freed else ''}block of {most}{plural(block.size, 'byte')}"
     size = plural(block.size, "byte")
     if block.kind == DYNAMIC:
         return f"a dynamic array of {size} on the stack"

@@ -18,7 +18,7 @@ from .modules import CodeAddress, Modules
 from .results import Results
 from .side import (
     ENDING_SIGNAL, Fault, FINDING_INDIRECT_LEAK, FINDING_LEAK, Last, Side, Thread as SideThread, VARIABLE_DYNAMIC,
-    VARIABLE_NONE, VARIABLE_STACK,
+    VARIABLE_FORGOTTEN, VARIABLE_NONE, VARIABLE_STACK,
 )
 from .sources import Sources
 from .symbols import Symbols
@@ -243,7 +243,7 @@ class Gatherer:
         """Gives a finding its stacks and its fingerprint."""
         finding = sighting.finding
         finding.stack = self.stack(sighting.place, NO_PLACE)
-        if finding.block is not None and finding.block.kind == HEAP:
+        if finding.block is not None and finding.block.kind == HEAP and not finding.is_forgotten:
             finding.allocated = self.stack(sighting.allocated, NO_ALLOCATION)
             if sighting.freed:
                 finding.freed = self.stack(sighting.freed, "")
@@ -300,6 +300,7 @@ def finding_of(report: Report, fault: Optional[Fault]) -> Finding:
     if fault is not None:
         finding.class_name = class_of(report.class_name, report.access, finding.bad_byte, fault)
         finding.call = fault.call
+        finding.is_forgotten = fault.variable == VARIABLE_FORGOTTEN
         finding.rows = Rows(fault.shadow_start, fault.shadow)
         if fault.size and report.access in ("load", "store"):
             finding.size = fault.size
@@ -359,7 +360,7 @@ def block_of(fault: Optional[Fault]) -> Optional[Block]:
     """Returns what a fault lies beside."""
     if fault is None or fault.block == 0:
         return None
-    if fault.variable == VARIABLE_NONE:
+    if fault.variable in (VARIABLE_NONE, VARIABLE_FORGOTTEN):
         return Block(fault.block, fault.block_size)
     if fault.variable == VARIABLE_DYNAMIC:
         return Block(fault.block, fault.block_size, DYNAMIC)

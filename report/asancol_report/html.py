@@ -15,7 +15,7 @@ from typing import Dict, Iterable, Iterator, List, Optional, TextIO, Tuple
 from . import shadow_rows
 from .classes import advice_for, shadow_text, what_is
 from .crashes import AWAITED, Crash
-from .findings import Finding, Frame, own_frames, place_text, Stack
+from .findings import Finding, FORGOTTEN, Frame, own_frames, place_text, Stack
 from .functions import brief
 from .options import Options
 from .results import Process, Results, Run
@@ -178,6 +178,8 @@ class Page:
             link = tag("a", escape(f"{first.title} in {place}"), href="#" + name_of(first))
             yield tag("p", "On the same block or variable as " + link + ", which came before.")
         yield tag("p", escape(self.what_is(finding)))
+        if finding.is_forgotten:
+            yield tag("p", escape(f"The block was {FORGOTTEN}."))
         yield tag("p", escape(advice_for(finding.class_name)), class_="dim")
         for title, stack, own in titled_stacks(finding):
             if stack:

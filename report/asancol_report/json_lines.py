@@ -181,6 +181,8 @@ def finding_entry(finding: Finding, lost: Leaks) -> Entry:
     if finding.block:
         entry["block"] = block_entry(finding.block)
         entry["where"] = finding.where
+    if finding.is_forgotten:
+        entry["forgotten"] = True
     for name, stack in (("allocated", finding.allocated), ("freed", finding.freed)):
         if stack:
             entry[name] = [frame_entry(frame) for frame in stack]
@@ -386,6 +388,7 @@ def finding_of(entry: Entry) -> Finding:
     finding.call = text_of(get("call"))
     finding.by_recorder = get("by") == RECORDER
     finding.said = text_of(get("said"))
+    finding.is_forgotten = get("forgotten") is True
     finding.shadow = text_of(get("shadow"))
     finding.rows = rows_of(get("rows"))
     finding.stack = stack_of(get("stack"))

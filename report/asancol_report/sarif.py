@@ -90,6 +90,8 @@ def properties(finding: Finding, seen: Sightings, process: Optional[Process]) ->
     made: Part = {"processes": finding.processes, "runs": seen.runs}
     if finding.by_recorder:
         made["by"] = RECORDER
+    if finding.is_forgotten:
+        made["forgotten"] = True
     if process is not None and process.command:
         made["command"] = whole_characters(command_line(process.command))
     if seen.machines:

@@ -54,8 +54,8 @@ MAX_TEXT = 1 << 12
 
 # How a process ended, as it says itself; or it goes on in another segment.
 ENDING_NONE, ENDING_EXIT, ENDING_EXEC, ENDING_SIGNAL, ENDING_LOST, ENDING_SEGMENT = range(6)
-# What a fault lies beside.
-VARIABLE_NONE, VARIABLE_STACK, VARIABLE_GLOBAL, VARIABLE_DYNAMIC = range(4)
+# What a fault lies beside; the last is a block whose notes went back since it was freed.
+VARIABLE_NONE, VARIABLE_STACK, VARIABLE_GLOBAL, VARIABLE_DYNAMIC, VARIABLE_FORGOTTEN = range(5)
 # What the recorder has found by itself.
 (FINDING_NONE, FINDING_LEAK, FINDING_INDIRECT_LEAK, FINDING_FAMILY, FINDING_SIZE, FINDING_OVERLAP,
  FINDING_NEGATIVE_SIZE, FINDING_OVERFLOW, FINDING_ALIGNMENT, FINDING_TOO_BIG, FINDING_NOT_OWNED,
@@ -318,7 +318,7 @@ class Side:
     def fault_of_fields(self, fields: Tuple[Any, ...]) -> Fault:
         _, place, block, block_size, allocated, freed, variable, line = fields[:8]
         start, size, shadow_start, frame, function, variables, kind, shadow, call, name = fields[14:]
-        if variable > VARIABLE_DYNAMIC:
+        if variable > VARIABLE_FORGOTTEN:
             variable = VARIABLE_NONE
         calls = [self.calls(*it) for it in zip((place, allocated, freed), fields[8:11])]
         access, allocated_by, freed_by = fields[11:14]

@@ -7,7 +7,7 @@ from typing import Callable, Dict, Iterable, Iterator, List, Optional, TextIO
 from . import shadow_rows
 from .class_names import TITLES
 from .crashes import own_calls
-from .findings import Block, BY_RECORDER, Finding, Frame, place_text, Stack, Threads
+from .findings import Block, BY_RECORDER, Finding, FORGOTTEN, Frame, place_text, Stack, Threads
 from .functions import brief
 from .leaks import text_of_runs
 from .results import Process, Results, Run
@@ -96,6 +96,8 @@ class Text:
             yield f"  {bad} is {printable(finding.where)}{self.frame_file(finding)}"
         elif finding.has_address:
             yield f"  address {bad}"
+        if finding.is_forgotten:
+            yield f"  {FORGOTTEN}"
         yield from variables_text(finding.block, finding.bad_byte)
         for title, number, stack in (("allocated", threads.allocated, finding.allocated),
                                      ("freed", threads.freed, finding.freed)):

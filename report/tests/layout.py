@@ -54,6 +54,7 @@ NUMBERS = [
     ("VARIABLE_NONE", side.VARIABLE_NONE),
     ("VARIABLE_STACK", side.VARIABLE_STACK),
     ("VARIABLE_GLOBAL", side.VARIABLE_GLOBAL),
+    ("VARIABLE_FORGOTTEN", side.VARIABLE_FORGOTTEN),
     ("offsetof(struct side, quarantine)", side.HEAD.size - side.WORD.size),
 ]
 

@@ -109,6 +109,29 @@ def trace_ends(folder: str) -> None:
 
 
 @report_test
+def notes_that_are_no_longer_kept(folder: str) -> None:
+    """Of a block that was freed long ago the size class may be known, or nothing. Each form says so, also read again."""
+    program = build(folder)
+    note = "freed long ago: its exact size and its stacks are no longer kept"
+    for block, size, near in ((0x2000, 16, "0x2000 is byte 0 of a freed block of at most 16 bytes"),
+                              (0, 0, "address 0x2000")):
+        parts = of_program(program, [fault(program.places["use"], block, size, variable=4)], [1])
+        write_trace(folder, "a.trace", FREED.replace("#5", "#1") + END, parts)
+        ran = report(folder, "--trace", "a.trace", "--json", "a.jsonl", "--sarif", "a.sarif", "--html", "a.html")
+        expect_in(ran.out, f"  {near}\n  {note}\n")
+        expect_not_in(ran.out, "allocated at")
+        with open(f"{folder}/a.jsonl", encoding="utf-8") as file:
+            found, = [it for it in map(json.loads, file) if it["type"] == "finding"]
+        expect((found["forgotten"], "allocated" in found, "block" in found), (True, False, block != 0), "the result")
+        with open(f"{folder}/a.sarif", encoding="utf-8") as file:
+            result, = json.load(file)["runs"][0]["results"]
+        expect((result["properties"]["forgotten"], note in result["message"]["text"]), (True, False), "SARIF")
+        with open(f"{folder}/a.html", encoding="utf-8") as file:
+            expect_in(file.read(), note)
+        expect(report(folder, "a.jsonl").out, ran.out, "read again")
+
+
+@report_test
 def memory_that_came_again(folder: str) -> None:
     """It is a field of the process in the result, and a line, also of results that are read again."""
     for name, parts in (("a", side(events=9, used_again=6815744)), ("b", side(events=9))):

@@ -88,15 +88,18 @@ RUNS: Dict[str, Tuple[str, int, List[str]]] = {
     "checker's memory": ("--memory 1048576 -- PROGRAM sound", 0, []),
     "quarantine": ("--quarantine 0 -- sh -c 'PROGRAM many 9 && test $ASANCOL_QUARANTINE = 0'", 0, []),
     "quarantine of the command": ("-- env ASANCOL_QUARANTINE=100 PROGRAM many 500", 0, ["all complete"]),
-    "quarantine of a child": ("-- sh -c 'PROGRAM sound; export ASANCOL_QUARANTINE=0; PROGRAM sound; PROGRAM sound'", 0,
-                              [
+    "quarantine of a child": ("--full -- sh -c 'PROGRAM sound; export ASANCOL_QUARANTINE=0; PROGRAM sound; PROGRAM sound'",
+                              0, [
         "all complete\nasancol: process ",
         "programs: held back 0 bytes of freed memory (ASANCOL_QUARANTINE), so uses after free may be missed; "
         "and so did 1 more",
     ]),
     "quarantine of a child, quiet": ("-q -- env ASANCOL_QUARANTINE=0 PROGRAM sound", 0, ["!asancol"]),
-    "quarantine of a child that is no lower": ("-- env ASANCOL_QUARANTINE=268435456 PROGRAM sound", 0, ["!held back"]),
-    "quarantine of a run": ("--quarantine 1 -- sh -c 'PROGRAM sound; PROGRAM sound'", 0, [
+    "quarantine of a lean child": ("-- sh -c 'ASANCOL_QUARANTINE=0 PROGRAM sound; ASANCOL_FULL=1 ASANCOL_QUARANTINE=7 "
+                                   "PROGRAM sound'", 0, ["!held back 0", "held back 7 bytes of freed memory (", "!and"]),
+    "quarantine of a child that is no lower": ("--full -- env ASANCOL_QUARANTINE=268435456 PROGRAM sound", 0, ["!held back"]),
+    "quarantine of a lean run": ("--quarantine 1 -- PROGRAM sound", 0, ["all complete\n", "!held back"]),
+    "quarantine of a run": ("--full --quarantine 1 -- sh -c 'PROGRAM sound; PROGRAM sound'", 0, [
         "complete\nasancol: 1 byte of freed memory is held back (--quarantine), so uses after free may be missed\n",
         "!asancol: process",
     ]),
@@ -240,17 +243,19 @@ def check_other_checker(suite: Suite, folder: str) -> None:
 
 
 def check_quarantine_of_environment(suite: Suite, folder: str) -> None:
-    """What the recorder is given, the checker is given too."""
+    """What the recorder is given, the checker is given too; in lean recording at least what it holds by default."""
     checker = f"{folder}/asancol"
     with open(checker, "w", encoding="utf-8") as script:
         script.write(f'#!/bin/sh\necho "$*" > {folder}/words\nexec {suite.asancol} "$@"\n')
     os.chmod(checker, 0o755)
-    for setting, wanted in (("4096", "check --quarantine 4096 -"), ("junk", "")):
-        ran = suite.run("--", suite.program, "sound", ASANCOL=checker, ASANCOL_QUARANTINE=setting)
+    for mode, setting, wanted in (("1", "4096", "check --quarantine 4096 -"), ("1", "junk", ""), ("0", "junk", ""),
+                                  ("0", "4096", "check --quarantine 268435456 -"),
+                                  ("0", "1000000000", "check --quarantine 1000000000 -")):
+        ran = suite.run("--", suite.program, "sound", ASANCOL=checker, ASANCOL_QUARANTINE=setting, ASANCOL_FULL=mode)
         expect_ran(ran, 0)
         with open(f"{folder}/words", encoding="utf-8") as words:
             expect(words.read().strip(), wanted, setting)
-    suite.run("--quarantine=1", "--limit", "9", "--limit", "8", "--", suite.program, "sound", ASANCOL=checker)
+    suite.run("--full", "--quarantine=1", "--limit", "9", "--limit", "8", "--", suite.program, "sound", ASANCOL=checker)
     with open(f"{folder}/words", encoding="utf-8") as words:
         expect(words.read().strip(), "check --quarantine 1 --limit 8 -", "options")
 

@@ -177,7 +177,7 @@ def check_lowered(suite: Suite, folder: str) -> None:
     """That a process has lowered a bound is in the text and in the result, which can be merged."""
     line = f"ASANCOL_QUARANTINE=7 {suite.program} past; ASANCOL_HALT=1 {suite.program} past; {RUN} -q -- " \
            f"env ASANCOL_QUARANTINE=5 {suite.program} sound"
-    ran = run_real(suite, "--json", f"{folder}/x", "--", "sh", "-c", line)
+    ran = run_real(suite, "--full", "--json", f"{folder}/x", "--", "sh", "-c", line)
     texts = [f"{suite.program}: held back {count} bytes of freed memory (ASANCOL_QUARANTINE)" for count in (7, 5)]
     texts += [f"{suite.program}: ended at its first fault (ASANCOL_HALT), so what it would have done was not seen"]
     expect_ran(ran, 99, "asancol: process ", *texts)
