@@ -79,8 +79,9 @@ enum unit_form {
     FORM_CLOSED,   /* all slots were handed out */
     FORM_OLD,      /* and it is looked at as they are freed */
     FORM_LISTED,   /* and half of them were freed, so that it may be used again */
-    FORM_RETIRED,  /* all that it had is freed for good: it keeps notes alone */
-    FORM_FORGOTTEN /* and not even these */
+    FORM_RETIRED,  /* all that it had is freed for good, */
+    FORM_BACK,     /* and its memory went back: it keeps notes alone, */
+    FORM_FORGOTTEN /* and not even these, or hardly any */
 };
 
 struct unit {

@@ -180,13 +180,25 @@ static bool state_block(const struct found *block)
     return is_stated;
 }
 
+/* For what is freed in so many bytes from a multiple of them on: one block, whose redzones are there too. If the address
+   is in one of them, a small one. */
+static struct found forgotten_at(uintptr_t address, size_t bytes)
+{
+    uintptr_t start = address / bytes * bytes + REDZONE;
+    uint32_t size = (uint32_t)bytes - 2 * REDZONE;
+    if (address - start < size)
+        return (struct found){start, size, true, false};
+    return (struct found){address / ALIGNMENT * ALIGNMENT, ALIGNMENT, true, false};
+}
+
 /* The block whose span has an address, or its piece. False: there is none, or none that the checker would hold. */
 static bool find(uintptr_t address, struct found *found)
 {
     struct block block;
     uintptr_t start;
-    if (retiring_forgot(address)) {
-        *found = (struct found){address / ALIGNMENT * ALIGNMENT, ALIGNMENT, true, false};
+    size_t forgotten = retiring_forgot(address);
+    if (forgotten != 0) {
+        *found = forgotten_at(address, forgotten);
         return true;
     }
     if (!arena_find_around(address, &block, &start) || block.state == BLOCK_UNRECORDED)

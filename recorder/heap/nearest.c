@@ -158,7 +158,7 @@ bool arena_find_nearest(uintptr_t address, struct nearest *found)
 {
     struct slot here, slot;
     uint64_t least = UINT64_MAX;
-    *found = (struct nearest){.is_forgotten = retiring_forgot(address)};
+    *found = (struct nearest){.is_forgotten = retiring_forgot(address) != 0};
     if (found->is_forgotten || !find_slot(address, &here))
         return found->is_forgotten;
     look_at(&here, address, &least, found);

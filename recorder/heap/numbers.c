@@ -8,7 +8,7 @@
 
 static bool has_blocks(const struct unit *unit)
 {
-    return unit->form != FORM_RETIRED && unit->form != FORM_FORGOTTEN;
+    return unit->form < FORM_RETIRED;
 }
 
 void heap_for_each(void (*visit)(const struct block *block, void *with), void *with)

@@ -59,7 +59,6 @@ static void count_retired(uint32_t unit, uint32_t count)
 
 /* Notes. */
 
-/* 0: it was taken back meanwhile. */
 static uint32_t take_oldest(void)
 {
     uint32_t unit = heap.kept[heap.first_kept];
@@ -68,19 +67,23 @@ static uint32_t take_oldest(void)
     return unit;
 }
 
+static uint32_t units_of(const struct unit *unit)
+{
+    return unit->kind == UNIT_RUN ? unit->count : 1;
+}
+
+/* What was taken back meanwhile has another form, or is there once more: then it goes the sooner. */
 static void forget_oldest(void)
 {
-    uint32_t unit = take_oldest();
-    if (unit == 0)
+    uint32_t number = take_oldest();
+    struct unit *unit = &arena.units[number];
+    if (unit->form != FORM_BACK)
         return;
-    heap.kept_bytes -= note_bytes(&arena.units[unit]);
-    if (arena.units[unit].kind != UNIT_SLAB) {
-        count_forgotten(unit, arena.units[unit].count);
-        return;
-    }
-    SET_NOTE(arena.units[unit].form, FORM_FORGOTTEN);
-    arena_forget(unit);
-    count_forgotten(unit, 1);
+    heap.kept_bytes -= note_bytes(unit);
+    SET_NOTE(unit->form, FORM_FORGOTTEN);
+    if (unit->kind == UNIT_SLAB)
+        arena_forget(number);
+    count_forgotten(number, units_of(unit));
 }
 
 static void keep(uint32_t unit)
@@ -90,28 +93,24 @@ static void keep(uint32_t unit)
     atomic_signal_fence(memory_order_seq_cst);
     heap.kept[(heap.first_kept + heap.kept_count) % MOST_KEPT] = unit;
     heap.kept_count++;
+    SET_NOTE(arena.units[unit].form, FORM_BACK);
     while (heap.kept_count == MOST_KEPT || (heap.kept_bytes > MOST_KEPT_BYTES && heap.kept_count > 0))
         forget_oldest();
 }
 
-static uint32_t units_of(const struct unit *unit)
-{
-    return unit->kind == UNIT_SLAB ? 1 : unit->count;
-}
-
-/* The place of the oldest of these with so many units, or null. What was a run of a big block has notes on one slot of
-   each unit alone, so no slab fits there. */
-static uint32_t *find_kept(uint32_t least, uint32_t most)
+/* The oldest of these with so many units, or 0. What was a run of a big block has notes on one slot of each unit alone,
+   so no slab fits there. */
+static uint32_t find_kept(uint32_t least, uint32_t most)
 {
     bool is_big = (size_t)least * UNIT > BIG_BYTES;
-    while (heap.kept_count > 0 && heap.kept[heap.first_kept] == 0)
+    while (heap.kept_count > 0 && arena.units[heap.kept[heap.first_kept]].form != FORM_BACK)
         take_oldest();
     for (uint32_t i = 0; i < heap.kept_count; i++) {
-        uint32_t *place = &heap.kept[(heap.first_kept + i) % MOST_KEPT], units = units_of(&arena.units[*place]);
-        if (*place != 0 && is_big == (*place >= FIRST_BIG) && units >= least && units <= most)
-            return place;
+        uint32_t number = heap.kept[(heap.first_kept + i) % MOST_KEPT], units = units_of(&arena.units[number]);
+        if (arena.units[number].form == FORM_BACK && is_big == (number >= FIRST_BIG) && units >= least && units <= most)
+            return number;
     }
-    return NULL;
+    return 0;
 }
 
 /* After so many bytes of blocks' memory, big blocks' too. */
@@ -120,23 +119,32 @@ static void note_reuse(void)
     side_note_reuse(((uint64_t)arena.top + (arena.big_top - FIRST_BIG)) * UNIT);
 }
 
-/* The rest of a longer run is used no more. So that is taken only if there is none of this length. */
-uint32_t retiring_take_back(uint32_t count)
+void retiring_undo(uint32_t number)
 {
-    uint32_t *place = find_kept(count, count);
-    place = place != NULL ? place : find_kept(count, UNITS);
-    if (place == NULL)
-        return 0;
-    uint32_t number = *place, units = units_of(&arena.units[number]);
     struct unit *unit = &arena.units[number];
-    *place = 0;
-    heap.kept_bytes -= note_bytes(unit);
+    bool has_notes = unit->form == FORM_BACK;
+    uint32_t units = units_of(unit);
+    heap.kept_bytes -= has_notes ? note_bytes(unit) : 0;
     heap.retired_units -= units;
-    for (uint32_t at = number; at < number + units; at++)
-        SET_NOTE(heap.retired[at / REGION_UNITS], heap.retired[at / REGION_UNITS] - 1);
+    for (uint32_t at = number; at < number + units; at++) {
+        uint32_t region = at / REGION_UNITS;
+        SET_NOTE(heap.retired[region], heap.retired[region] - 1);
+        SET_NOTE(heap.forgotten[region], heap.forgotten[region] - !has_notes);
+    }
     SET_NOTE(unit->form, FORM_NONE);
-    arena_forget(number);
+    if (has_notes)
+        arena_forget(number);
     note_reuse();
+}
+
+/* The rest of a longer run is used no more. */
+uint32_t retiring_take_back(uint32_t count, bool longer)
+{
+    uint32_t number = find_kept(count, count);
+    if (number == 0 && longer)
+        number = find_kept(count, UNITS);
+    if (number != 0)
+        retiring_undo(number);
     return number;
 }
 
@@ -447,8 +455,14 @@ bool retiring_has(uintptr_t address)
            || is_without_head(address);
 }
 
-bool retiring_forgot(uintptr_t address)
+size_t retiring_forgot(uintptr_t address)
 {
     uint32_t region = region_of(address);
-    return region != REGIONS && (NOTE_NOW(heap.forgotten[region]) == REGION_UNITS || is_without_head(address));
+    if (region == REGIONS)
+        return 0;
+    if (NOTE_NOW(heap.forgotten[region]) == REGION_UNITS)
+        return (size_t)REGION_UNITS * UNIT;
+    const struct unit *unit = unit_at(address);
+    bool is_new = NOTE_NOW(unit->kind) == UNIT_NEW && NOTE_NOW(unit->form) == FORM_FORGOTTEN;
+    return is_new || is_without_head(address) ? UNIT : 0;
 }

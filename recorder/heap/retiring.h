@@ -12,9 +12,11 @@ void retiring_leave(uint32_t unit, uint32_t count);
 /* What waits in a shard is given back. */
 void retiring_flush(struct shard *shard);
 
-/* If the system has no memory: units that are retired, which may be used again, as a run or for a slab; or 0. Under
-   central. */
-uint32_t retiring_take_back(uint32_t count);
+/* Units that are retired and have notes, which may be used again, as a run or for a slab: so many, or `longer` ones if
+   there are none; or 0. Under central. */
+uint32_t retiring_take_back(uint32_t count, bool longer);
+/* These count as retired no more: a slab or a run, or what has no notes. Under central. */
+void retiring_undo(uint32_t unit);
 
 /* A block of a unit was freed: at some counts it is looked at. */
 void retiring_count(uint32_t unit);
@@ -24,9 +26,11 @@ void retiring_begin(uint32_t unit);
    Under central. */
 uint32_t retiring_take_listed(unsigned class);
 
-/* Whether all that this address is of was freed for good; and whether nothing is noted of it any more. At any time. */
+/* Whether all that this address is of was freed for good. At any time. */
 bool retiring_has(uintptr_t address);
-bool retiring_forgot(uintptr_t address);
+/* Whether nothing is noted of that any more: how many bytes round it all of this is true of, from a multiple of them
+   on; or 0. */
+size_t retiring_forgot(uintptr_t address);
 
 /* Whether more is dead than the quarantine may hold. */
 static inline bool dead_are_too_many(void)

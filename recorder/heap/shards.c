@@ -9,6 +9,7 @@
 #include "heap/placing.h"
 #include "heap/poisoning.h"
 #include "heap/retiring.h"
+#include "heap/reusing.h"
 #include "shadow/unused.h"
 
 /* How many units a shard takes at a time, and runs: at first as many as there are, within these. */
@@ -120,11 +121,11 @@ static uint32_t take_unit(struct shard *shard)
         if (heap.is_unpainted)
             unit = arena_take_run(1, true);
         else if (arena.top >= MANY_UNITS)
-            unit = retiring_take_back(1);
+            unit = retiring_take_back(1, true);
         if (unit == 0 && !heap.is_unpainted)
             take_units(span_size(), span);
         if (unit == 0 && span->next == span->end)
-            unit = retiring_take_back(1);
+            unit = reusing_take(1, true);
         central_give();
         if (unit != 0 || span->next == span->end)
             return unit;
@@ -266,11 +267,20 @@ static uint32_t take_small_run(uint32_t count)
 }
 
 /* What was a slab is a run from now on. A run stays as long as it was. */
-static uint32_t take_run_back(uint32_t count)
+static uint32_t take_run_back(uint32_t count, bool longer)
 {
-    uint32_t first = retiring_take_back(count);
+    uint32_t first = retiring_take_back(count, longer);
     if (first != 0 && arena.units[first].kind == UNIT_SLAB)
         write_run(first, 1);
+    return first;
+}
+
+/* There is no memory but what was used before. */
+static uint32_t take_any_run(uint32_t count)
+{
+    uint32_t first = take_run_back(count, false);
+    if (first == 0 && (first = reusing_take(count, false)) != 0)
+        write_run(first, count);
     return first;
 }
 
@@ -281,13 +291,13 @@ static uint32_t take_run(uint32_t count)
     if (heap.is_unpainted)
         return arena_take_run(count, false);
     bool are_many = (is_big ? arena.big_top - FIRST_BIG : arena.top) >= MANY_UNITS;
-    uint32_t first = are_many ? take_run_back(count) : 0;
+    uint32_t first = are_many ? take_run_back(count, true) : 0;
     if (first != 0)
         return first;
     first = is_big ? arena_take_big(count) : take_small_run(count);
     if (first != 0)
         write_run(first, count);
-    return first != 0 ? first : take_run_back(count);
+    return first != 0 ? first : take_any_run(count);
 }
 
 struct block *forward_take_run(size_t count)

@@ -236,20 +236,27 @@ static void wrong_after(int rounds)
     waitpid(child, NULL, 0);
 }
 
-/* Lets the process have so many MB more, and says how many blocks it then gets in memory of smaller ones that were
-   freed. */
-static void limited(int rounds)
+/* No more memory from now on than so many megabytes. */
+static void limit_memory(int megabytes)
 {
-    enum { LARGE = 40000 };
     struct rlimit limit = {0, RLIM_INFINITY};
-    char line[256], *last = NULL;
+    char line[256];
     long kilobytes = 0;
     FILE *status = fopen("/proc/self/status", "r");
     while (fgets(line, sizeof line, status) != NULL)
         sscanf(line, "VmData: %ld", &kilobytes);
     fclose(status);
-    limit.rlim_cur = ((rlim_t)kilobytes << 10) + ((rlim_t)rounds << 20);
+    limit.rlim_cur = ((rlim_t)kilobytes << 10) + ((rlim_t)megabytes << 20);
     setrlimit(RLIMIT_DATA, &limit);
+}
+
+/* Lets the process have so many MB more, and says how many blocks it then gets in memory of smaller ones that were
+   freed. */
+static void limited(int rounds)
+{
+    enum { LARGE = 40000 };
+    char *last = NULL;
+    limit_memory(rounds);
     for (int i = 0; i < rounds * 2000; i++)
         free(hide(malloc(1000)));
     int count = 0;
@@ -262,6 +269,36 @@ static void limited(int rounds)
         free(last);
     }
     printf("%d\n", count);
+}
+
+/* As many blocks of a size as there is memory for, but no more than so many bytes, of zeros: how many megabytes. */
+static long filled(size_t size, size_t most)
+{
+    char **last = NULL;
+    size_t bytes = 0;
+    for (char **one; bytes < most && (one = hide(calloc(size, 1))) != NULL; last = one, bytes += size) {
+        if (one[0] != NULL || ((char *)one)[size - 1] != 0 || ((char *)one)[size / 2] != 0)
+            puts("no zeros");
+        memset(one, 1, size);
+        one[0] = (char *)last;
+    }
+    for (char **before; last != NULL; last = before) {
+        before = (char **)last[0];
+        free(last);
+    }
+    return (long)(bytes >> 20);
+}
+
+/* No more memory than so many megabytes, most of which small blocks have had before. */
+static void joined(int rounds)
+{
+    static const size_t sizes[] = {300000, 2000000, 20000000, 1000, 40000, 300000, 700000};
+    size_t most = (size_t)rounds << 20;
+    limit_memory(rounds);
+    filled(32, most);
+    filled(1000, most);
+    for (size_t i = 0; i < sizeof sizes / sizeof *sizes; i++)
+        printf("%ld ", filled(sizes[i], most));
 }
 
 /* A block that is larger than what a checker holds, in several places, and twice in one. */
@@ -291,7 +328,7 @@ static const struct {
 } programs[] = {
     {"handlers", handlers}, {"frees", frees}, {"turns", turns}, {"vforks", vforks},       {"vfork_frees", vfork_frees},
     {"stacks", stacks},     {"jumps", jumps}, {"exits", exits}, {"scattered", scattered}, {"wrong_after", wrong_after},
-    {"limited", limited},   {"large", large}};
+    {"limited", limited},   {"large", large}, {"joined", joined}};
 
 int main(int count, char **argv)
 {

@@ -133,6 +133,14 @@ def check_limited(suite: Suite, folder: str, program: str) -> None:
     expect(side_of(f"{folder}/t.trace").used_again() > 0, True, "that freed memory came again")
 
 
+def check_joined(suite: Suite, folder: str, program: str) -> None:
+    """Likewise for blocks of any size, of what lies side by side: also of what has no notes any more."""
+    ran = run([program, "joined", "400"], folder, ASANCOL_TRACE="t.trace", ASANCOL_WHERE="1", ASANCOL_FULL="0")
+    expect((ran.returncode, ran.stderr), (0, b""), "the run")
+    expect([int(it) > 150 for it in ran.stdout.split()], [True] * 7, f"{ran.stdout!r} megabytes")
+    expect(kinds_of(segments_of(suite, f"{folder}/t.trace")), {}, "faults")
+
+
 def check_hub(suite: Suite, folder: str, program: str) -> None:
     """What is in the way of a block begins another connection of the process. Each fault is there once."""
     peers, said = hub.run_under(folder, [program, "turns", "500"], ASANCOL_QUARANTINE="200", ASANCOL_LIMIT="100")
@@ -190,6 +198,7 @@ def tests(suite: Suite, compiler: Compiler) -> None:
                                  ("turns", check_turns, lean), ("vforks", check_vforks, lean),
                                  ("large", check_large, lean),
                                  ("used again", check_used_again, lean), ("limited", check_limited, lean),
+                                 ("joined", check_joined, lean),
                                  ("stacks", check_stacks, lean), ("hub", check_hub, lean)):
         suite.test(f"{compiler} lean {name}", check, program)
     suite.test(f"{compiler} lean every access", check_every, compiler)

@@ -1,0 +1,12 @@
+/* If the system has no more memory: whatever is freed for good may be used again. */
+#ifndef ASANCOL_REUSING_H
+#define ASANCOL_REUSING_H
+
+#include <stdbool.h>
+#include <stdint.h>
+
+/* So many units in a row that are retired, of whatever length, with notes or without; 0: there are none. What is for a
+   slab has notes on all slots. They are what they were, or a run. Under central. */
+uint32_t reusing_take(uint32_t count, bool is_slab);
+
+#endif
