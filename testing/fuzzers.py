@@ -100,7 +100,7 @@ STREAM = ("state", "regions", "places", "watched", "stated", "opening", "growing
 PATIENT = "-DIS_PATIENT=1"
 
 # The parts of the allocator.
-HEAP = ("arena", "entering", "origin", "spare", "shards", "retiring", "poisoning", "quarantine", "freeing",
+HEAP = ("arena", "entering", "origin", "spare", "shards", "retiring", "reusing", "poisoning", "quarantine", "freeing",
         "program_hooks", "allocating", "numbers", "nearest", "snapshot")
 
 # What threads share.

@@ -1,6 +1,7 @@
 /* Memory that becomes something else: a stack of the program's own may have been there, whose redzones must not stay.
    */
 #define _GNU_SOURCE
+#include <errno.h>
 #include <stdarg.h>
 #include <sys/mman.h>
 #include <ucontext.h>
@@ -54,11 +55,16 @@ CHECK void *checked_mremap(void *old, size_t old_size, size_t size, int flags, .
     return found;
 }
 
-/* Not what was never touched: the shadow has 32 TiB of addresses. */
+/* Not what was never touched: the shadow has 32 TiB of addresses. Nor is it refused because of these, as by the limit
+   of users who may lock little: then nothing is locked, as with AddressSanitizer. */
 GUARD_OWN(mlockall);
 CHECK int checked_mlockall(int flags)
 {
-    return real_mlockall(flags | MCL_ONFAULT);
+    int before = errno, done = real_mlockall(flags | MCL_ONFAULT);
+    if (done == 0 || errno != ENOMEM)
+        return done;
+    errno = before;
+    return 0;
 }
 
 /* A stack of the program's own begins anew. What was left on it in the middle will not go on. */

@@ -426,8 +426,10 @@ uint32_t retiring_take_listed(unsigned class)
 /* The region of an address that was handed out once; or REGIONS. */
 static uint32_t region_of(uintptr_t address)
 {
+    if (!arena_is_found())
+        return REGIONS;
     uintptr_t distance = address - (uintptr_t)arena.bytes;
-    bool is_known = arena_is_found() && distance < (size_t)UNITS * UNIT && is_used((uint32_t)(distance / UNIT));
+    bool is_known = distance < (size_t)UNITS * UNIT && is_used((uint32_t)(distance / UNIT));
     return is_known ? (uint32_t)(distance / UNIT / REGION_UNITS) : REGIONS;
 }
 

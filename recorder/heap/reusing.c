@@ -17,18 +17,22 @@ static bool is_wiped(uint32_t region)
 static bool is_headless(uint32_t number)
 {
     const struct unit *unit = &arena.units[number];
-    return unit->kind == UNIT_RUN_BODY && arena.units[number - unit->count].kind == UNIT_NEW;
+    return NOTE_NOW(unit->kind) == UNIT_RUN_BODY && NOTE_NOW((unit - NOTE_NOW(unit->count))->kind) == UNIT_NEW;
+}
+
+/* How many units a run has that begins here; else 1. A shard may be making it a slab just now. */
+static uint32_t units_at(uint32_t number)
+{
+    const struct unit *unit = &arena.units[number];
+    return NOTE_NOW(unit->kind) == UNIT_RUN ? NOTE_NOW(unit->count) : 1;
 }
 
 /* How many units from this one on are retired together; or 0. */
 static uint32_t retired_at(uint32_t number)
 {
-    const struct unit *unit = &arena.units[number];
     if (is_wiped(number / REGION_UNITS) || is_headless(number))
         return 1;
-    if (NOTE_NOW(unit->form) < FORM_BACK)
-        return 0;
-    return unit->kind == UNIT_RUN ? unit->count : 1;
+    return NOTE_NOW(arena.units[number].form) >= FORM_BACK ? units_at(number) : 0;
 }
 
 /* So many in a row, or more in which they are; or 0. */
@@ -37,8 +41,7 @@ static uint32_t find_row(uint32_t from, uint32_t end, uint32_t count)
     uint32_t first = from;
     for (uint32_t at = from; at < end;) {
         uint32_t retired = retired_at(at);
-        bool is_run = arena.units[at].kind == UNIT_RUN && arena.units[at].count != 0;
-        at += retired != 0 ? retired : is_run ? arena.units[at].count : 1;
+        at += retired != 0 ? retired : units_at(at);
         if (retired == 0)
             first = at;
         else if (at - first >= count)

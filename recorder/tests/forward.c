@@ -1,6 +1,7 @@
 /* What the allocator does when it goes forward. `forward WHAT [N]` makes bad accesses and frees, or none, and prints
    how many megabytes it had at most. */
 #define _GNU_SOURCE
+#include <linux/capability.h>
 #include <malloc.h>
 #include <pthread.h>
 #include <signal.h>
@@ -12,6 +13,7 @@
 #include <string.h>
 #include <sys/mman.h>
 #include <sys/resource.h>
+#include <sys/syscall.h>
 #include <sys/time.h>
 #include <sys/wait.h>
 #include <unistd.h>
@@ -405,6 +407,21 @@ static void locked(size_t of)
     free_all(live, 50);
 }
 
+/* A user who may lock little locks all that there is. */
+static void locked_by_user(size_t of)
+{
+    struct __user_cap_header_struct header = {_LINUX_CAPABILITY_VERSION_3, 0};
+    struct __user_cap_data_struct rights[_LINUX_CAPABILITY_U32S_3];
+    (void)of;
+    syscall(SYS_capget, &header, rights);
+    rights[0].effective &= ~(1U << CAP_IPC_LOCK);
+    expect(syscall(SYS_capset, &header, rights) == 0, "fewer rights");
+    rlim_t most = (rlim_t)8 * MEGABYTE;
+    expect(setrlimit(RLIMIT_MEMLOCK, &(struct rlimit){most, most}) == 0, "the limit");
+    expect(mlockall(MCL_CURRENT) == 0, "that memory can be locked");
+    locked(0);
+}
+
 /* An address that was handed out before, with few blocks live. */
 static void distinct(size_t of)
 {
@@ -432,7 +449,7 @@ static const struct {
 } all[] = {{"late", late},        {"twice", twice},   {"pass", pass},           {"loop", loop},
            {"give", give},        {"forks", forks},   {"shorts", shorts},       {"calls", calls},
            {"sizes", sizes},      {"locked", locked}, {"forgotten", forgotten}, {"handlers", handlers},
-           {"distinct", distinct}, {"limited", limited}};
+           {"distinct", distinct}, {"limited", limited}, {"locked_by_user", locked_by_user}};
 
 int main(int count, char **argv)
 {
