@@ -314,13 +314,26 @@ void heap_ends_here(void)
 
 /* Threads. */
 
-void heap_thread_ends(void)
+/* With the gate alone: of many threads that end each would wait for the shards of all others. */
+static void give_own(void)
 {
-    if (own == NULL || !heap_enter_all())
-        return;
+    bool alone = library_is_alone();
+    has = HAS_ALL; /* the gate's lock, as far as jumps are concerned */
+    if (!alone)
+        lock_take(&heap.gate);
     shard_give(own);
     own = NULL;
     is_over = true;
+    if (!alone)
+        lock_give(&heap.gate);
+    has = HAS_NOTHING;
+}
+
+void heap_thread_ends(void)
+{
+    if (own == NULL || !may_enter((uintptr_t)__builtin_frame_address(0)))
+        return;
+    give_own();
     heap_leave();
 }
 

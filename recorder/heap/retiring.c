@@ -69,15 +69,21 @@ static uint32_t take_oldest(void)
 
 static uint32_t units_of(const struct unit *unit)
 {
-    return unit->kind == UNIT_RUN ? unit->count : 1;
+    return NOTE_NOW(unit->kind) == UNIT_RUN ? NOTE_NOW(unit->count) : 1;
 }
 
-/* What was taken back meanwhile has another form, or is there once more: then it goes the sooner. */
+static bool is_kept(const struct unit *unit)
+{
+    return NOTE_NOW(unit->form) == FORM_BACK;
+}
+
+/* What was taken back meanwhile has another form, which a shard may be changing; or it is there once more, and goes the
+   sooner. */
 static void forget_oldest(void)
 {
     uint32_t number = take_oldest();
     struct unit *unit = &arena.units[number];
-    if (unit->form != FORM_BACK)
+    if (!is_kept(unit))
         return;
     heap.kept_bytes -= note_bytes(unit);
     SET_NOTE(unit->form, FORM_FORGOTTEN);
@@ -103,11 +109,12 @@ static void keep(uint32_t unit)
 static uint32_t find_kept(uint32_t least, uint32_t most)
 {
     bool is_big = (size_t)least * UNIT > BIG_BYTES;
-    while (heap.kept_count > 0 && arena.units[heap.kept[heap.first_kept]].form != FORM_BACK)
+    while (heap.kept_count > 0 && !is_kept(&arena.units[heap.kept[heap.first_kept]]))
         take_oldest();
     for (uint32_t i = 0; i < heap.kept_count; i++) {
-        uint32_t number = heap.kept[(heap.first_kept + i) % MOST_KEPT], units = units_of(&arena.units[number]);
-        if (arena.units[number].form == FORM_BACK && is_big == (number >= FIRST_BIG) && units >= least && units <= most)
+        uint32_t number = heap.kept[(heap.first_kept + i) % MOST_KEPT];
+        const struct unit *unit = &arena.units[number];
+        if (is_kept(unit) && is_big == (number >= FIRST_BIG) && units_of(unit) >= least && units_of(unit) <= most)
             return number;
     }
     return 0;
@@ -122,7 +129,7 @@ static void note_reuse(void)
 void retiring_undo(uint32_t number)
 {
     struct unit *unit = &arena.units[number];
-    bool has_notes = unit->form == FORM_BACK;
+    bool has_notes = is_kept(unit);
     uint32_t units = units_of(unit);
     heap.kept_bytes -= has_notes ? note_bytes(unit) : 0;
     heap.retired_units -= units;

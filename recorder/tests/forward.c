@@ -16,6 +16,7 @@
 #include <sys/syscall.h>
 #include <sys/time.h>
 #include <sys/wait.h>
+#include <time.h>
 #include <unistd.h>
 
 enum { MOST_THREADS = 8 };
@@ -275,6 +276,33 @@ static void shorts(size_t count)
     }
 }
 
+/* Many threads at once, which then end: that takes no time for each two of them. */
+static pthread_barrier_t all_there;
+static void *alive_run(void *of)
+{
+    (void)of;
+    char *block = take(100);
+    pthread_barrier_wait(&all_there);
+    free(block);
+    return NULL;
+}
+
+static void alive(size_t count)
+{
+    enum { MOST_SECONDS = 8 };
+    pthread_t *threads = calloc(count, sizeof *threads);
+    pthread_attr_t small;
+    pthread_attr_init(&small);
+    pthread_attr_setstacksize(&small, 1 << 16);
+    pthread_barrier_init(&all_there, NULL, (unsigned)count);
+    for (size_t i = 0; i < count; i++)
+        expect(pthread_create(&threads[i], &small, alive_run, NULL) == 0, "a thread");
+    for (size_t i = 0; i < count; i++)
+        pthread_join(threads[i], NULL);
+    expect(clock() / CLOCKS_PER_SEC < MOST_SECONDS, "the time of the processors");
+    free(threads);
+}
+
 /* Handlers that allocate and free in the middle of that. */
 static char *_Atomic of_handler;
 static void handle(int number)
@@ -449,7 +477,7 @@ static const struct {
 } all[] = {{"late", late},        {"twice", twice},   {"pass", pass},           {"loop", loop},
            {"give", give},        {"forks", forks},   {"shorts", shorts},       {"calls", calls},
            {"sizes", sizes},      {"locked", locked}, {"forgotten", forgotten}, {"handlers", handlers},
-           {"distinct", distinct}, {"limited", limited}, {"locked_by_user", locked_by_user}};
+           {"distinct", distinct}, {"limited", limited}, {"locked_by_user", locked_by_user}, {"alive", alive}};
 
 int main(int count, char **argv)
 {

@@ -67,6 +67,11 @@ def check_memory(suite: Suite, folder: str, program: str) -> None:
             expect((got.kinds, got.megabytes < MOST), ({}, True), f"{words}: {got.megabytes} MB with {settings}")
 
 
+def check_alive(suite: Suite, folder: str, program: str) -> None:
+    """Many threads end without waiting for each other."""
+    expect(found(suite, folder, program, "alive 10000").kinds, {}, "faults")
+
+
 def check_good(suite: Suite, folder: str, program: str) -> None:
     """What is good has no report, with any quarantine."""
     for words in ("give", "calls", "handlers 1", "handlers 4", "distinct", "limited"):
@@ -86,5 +91,5 @@ def check_freed(suite: Suite, folder: str, program: str) -> None:
 def tests(suite: Suite, compiler: Compiler) -> None:
     program = suite.built(compiler.c, [f"{TESTS}/forward.c"], f"forward-{compiler}", "-O1", "-w", "-pthread")
     for name, check in (("late", check_late), ("run", check_run), ("twice", check_twice), ("memory", check_memory),
-                        ("good", check_good), ("freed", check_freed)):
+                        ("good", check_good), ("alive", check_alive), ("freed", check_freed)):
         suite.test(f"{compiler} forward {name}", check, program)
