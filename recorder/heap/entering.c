@@ -48,11 +48,14 @@ bool heap_is_entered(void)
     return is_inside != OUTSIDE;
 }
 
+/* A signal handler has closed the shards of all others. */
+static _Thread_local bool has_closed;
+
 bool heap_is_locked_here(void)
 {
     if (is_inside == INSIDE)
-        return has == HAS_ALL || library_is_alone();
-    return is_inside == AT_THE_LOCK && library_is_alone();
+        return has == HAS_ALL || has_closed || library_is_alone();
+    return is_inside == AT_THE_LOCK && (has_closed || library_is_alone());
 }
 
 struct shard *heap_shard(void)
@@ -155,11 +158,13 @@ static void enter_somewhere(void)
         has = HAS_SHARD;
         if (own != NULL && enter_own())
             return;
-        has = HAS_ALL;
-        take_all();
-        if (own == NULL || heap_is_ordered())
+        has = HAS_ALL; /* the gate's lock, as far as jumps are concerned */
+        if (own == NULL || heap_is_ordered()) {
+            take_all();
             return;
-        give_all();
+        }
+        lock_take(&heap.gate); /* whoever has closed it has this */
+        lock_give(&heap.gate);
     }
 }
 
@@ -263,12 +268,33 @@ void heap_lock(void)
         nested++;
 }
 
+/* The thread that was interrupted is in its shard, or about to go in or out, and has neither the gate nor central: so
+   whoever is in another shard can leave it. It stays there, and the notes on its blocks may be in the middle of a change.
+   Who has the gate may wait for this shard: so nobody waits for the gate here. */
+bool heap_close_here(void)
+{
+    if (heap_is_locked_here())
+        return true;
+    if (has == HAS_ALL || arena_changing != 0 || !lock_try(&heap.gate))
+        return false;
+    close_all();
+    has_closed = true;
+    return true;
+}
+
+static void open_others(void)
+{
+    has_closed = false;
+    atomic_store(&heap.is_closed, false);
+    lock_give(&heap.gate);
+}
+
 void heap_unlock(void)
 {
-    if (nested > 0)
-        nested--;
-    else
+    if (nested == 0)
         heap_leave();
+    else if (--nested == 0 && has_closed)
+        open_others();
 }
 
 /* Jumps. */

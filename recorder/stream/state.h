@@ -116,7 +116,7 @@ extern struct shared {
 enum stating { STATING_DONE, STATING_FRAME, STATING_NOT_NEEDED, STATING_AGAIN };
 
 /* How this thread has the heap: it has locked it here; or a signal handler has interrupted it in there, where something
-   may be in the middle of a change, or at the lock, so that another thread may be in there. */
+   may be in the middle of a change, and no other thread is; or another one may be. */
 enum holding { HEAP_LOCKED, HEAP_INTERRUPTED, HEAP_AT_LOCK };
 
 /* What the stream needs of what stands on it: the allocator, and the process. */
@@ -124,7 +124,7 @@ struct above {
     void (*lock_heap)(void);
     void (*unlock_heap)(void);
     bool (*is_in_heap)(void); /* this thread */
-    bool (*has_heap)(void);   /* likewise, and no other thread is */
+    bool (*close_heap)(void); /* likewise, and no other thread is until it unlocks it; false: one may be */
     /* Records what the heap has, in at most so many events. It is locked. */
     void (*snapshot)(uint64_t most_held, uint64_t room);
     /* How many bytes of freed blocks are held from now on; at any time. */

@@ -102,7 +102,7 @@ static enum holding holding_now(void)
 {
     if (!above.is_in_heap())
         return HEAP_LOCKED;
-    return above.has_heap() ? HEAP_INTERRUPTED : HEAP_AT_LOCK;
+    return above.close_heap() ? HEAP_INTERRUPTED : HEAP_AT_LOCK;
 }
 
 /* Likewise in lean recording, of a bad access to a block, or of a bad free. What it has to find is stated first, with

@@ -45,6 +45,29 @@ static void handlers(int rounds)
     printf("%d\n", (int)ticks);
 }
 
+/* Likewise while another thread allocates, too. */
+static volatile sig_atomic_t has_ended;
+static void *beside(void *of)
+{
+    while (!has_ended)
+        free(hide(malloc(50)));
+    return of;
+}
+
+static void threaded(int rounds)
+{
+    pthread_t thread;
+    sigset_t alarm;
+    sigemptyset(&alarm);
+    sigaddset(&alarm, SIGALRM);
+    pthread_sigmask(SIG_BLOCK, &alarm, NULL);
+    pthread_create(&thread, NULL, beside, NULL);
+    pthread_sigmask(SIG_UNBLOCK, &alarm, NULL);
+    handlers(rounds);
+    has_ended = 1;
+    pthread_join(thread, NULL);
+}
+
 /* A timer's handler frees many blocks, whatever it interrupts: mostly the allocator. Each is freed again later. */
 
 enum { MANY = 100 };
@@ -328,7 +351,7 @@ static const struct {
 } programs[] = {
     {"handlers", handlers}, {"frees", frees}, {"turns", turns}, {"vforks", vforks},       {"vfork_frees", vfork_frees},
     {"stacks", stacks},     {"jumps", jumps}, {"exits", exits}, {"scattered", scattered}, {"wrong_after", wrong_after},
-    {"limited", limited},   {"large", large}, {"joined", joined}};
+    {"limited", limited},   {"large", large}, {"joined", joined},     {"threaded", threaded}};
 
 int main(int count, char **argv)
 {

@@ -55,6 +55,15 @@ def check_handlers(suite: Suite, folder: str, program: str) -> None:
     expect(kinds, {"store heap-buffer-overflow": int(ran.stdout)}, "faults")
 
 
+def check_threaded(suite: Suite, folder: str, program: str) -> None:
+    """Likewise if there are several threads. While all of them share something, as when a unit is taken, it is known
+    that an access is bad, and no more."""
+    ran = run([program, "threaded", "200000"], folder, ASANCOL_TRACE="t.trace", ASANCOL_FULL="0")
+    kinds = kinds_of(segments_of(suite, f"{folder}/t.trace"))
+    ticks, exact = int(ran.stdout), kinds.get("store heap-buffer-overflow", 0)
+    expect((sum(kinds.values()), exact > ticks * 3 // 4), (ticks, True), f"{kinds}")
+
+
 def check_frees(suite: Suite, folder: str, program: str) -> None:
     """Each free of a handler is seen, however many it makes in the middle of the allocator."""
     for full in ("0", "1"):
@@ -193,6 +202,7 @@ def tests(suite: Suite, compiler: Compiler) -> None:
     lean = suite.built(compiler.c, [f"{TESTS}/lean.c"], f"lean-{compiler}", *flags)
     for name, check, program in (("nothing", check_nothing, segments), ("same", check_same, segments),
                                  ("children", check_children, segments), ("handlers", check_handlers, lean),
+                                 ("threaded", check_threaded, lean),
                                  ("frees", check_frees, lean),
                                  ("jumps", check_jumps, lean),
                                  ("turns", check_turns, lean), ("vforks", check_vforks, lean),
