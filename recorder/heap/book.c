@@ -180,7 +180,7 @@ static bool state_block(const struct found *block)
     return is_stated;
 }
 
-/* For what is freed in so many bytes from a multiple of them on: one block, whose redzones are there too. If the address
+/* For what is freed in so many bytes from a multiple of them on: a block, whose redzones are there too. If the address
    is in one of them, a small one. */
 static struct found forgotten_at(uintptr_t address, size_t bytes)
 {
@@ -191,7 +191,7 @@ static struct found forgotten_at(uintptr_t address, size_t bytes)
     return (struct found){address / ALIGNMENT * ALIGNMENT, ALIGNMENT, true, false};
 }
 
-/* The block whose span has an address, or its piece. False: there is none, or none that the checker would hold. */
+/* The block whose span has an address, or a piece of it. False: there is none, or the checker would not hold it. */
 static bool find(uintptr_t address, struct found *found)
 {
     struct block block;

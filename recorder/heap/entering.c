@@ -1,5 +1,6 @@
 #include "heap/entering.h"
 
+#include <limits.h>
 #include <linux/membarrier.h>
 #include <sys/mman.h>
 
@@ -89,29 +90,38 @@ static long membarrier(int command)
     return system_call3(SYS_membarrier, command, 0, 0);
 }
 
-/* A thread of lower priority may be in the middle, so that it needs this processor. */
-static void wait_for(const struct shard *shard)
+/* How often to look whether others have left their shards: in a handler some tens of milliseconds long, since one of
+   them may wait for it in a handler of its own. */
+enum { ANY_TIME = INT_MAX, SHORT_TIME = 400 };
+
+/* A thread of lower priority may be in the middle, so that it needs this processor. False: it is still there. */
+static bool wait_for(const struct shard *shard, int most)
 {
     enum { LOOKS = 100, TURNS = 200 };
     static const struct timespec a_while = {.tv_nsec = 50000};
-    for (int looks = 0; atomic_load_explicit(&shard->is_busy, memory_order_acquire); looks++) {
+    for (int looks = 0; atomic_load_explicit(&shard->is_busy, memory_order_acquire); looks += looks < most) {
         if (looks < LOOKS)
             __builtin_ia32_pause();
         else if (looks < TURNS)
             system_sched_yield();
-        else
+        else if (looks < most || most == ANY_TIME)
             system_nanosleep(&a_while);
+        else
+            return false;
     }
+    return true;
 }
 
-static void close_all(void)
+/* False: somebody is still in one after that time. */
+static bool close_all(int most)
 {
     atomic_store(&heap.is_closed, true);
     if (atomic_load_explicit(&heap.has_barrier, memory_order_relaxed))
         membarrier(MEMBARRIER_CMD_PRIVATE_EXPEDITED);
     for (const struct shard *it = atomic_load(&heap.shards); it != NULL; it = it->next)
-        if (it != own)
-            wait_for(it);
+        if (it != own && !wait_for(it, most))
+            return false;
+    return true;
 }
 
 static void take_all(void)
@@ -121,7 +131,7 @@ static void take_all(void)
         lock_take(&heap.gate);
     heap.is_locked = !alone;
     if (!alone && !heap_is_ordered())
-        close_all();
+        close_all(ANY_TIME);
     note_all_left_out();
 }
 
@@ -268,25 +278,26 @@ void heap_lock(void)
         nested++;
 }
 
+static void open_others(void)
+{
+    has_closed = false;
+    atomic_store(&heap.is_closed, false);
+    lock_give(&heap.gate);
+}
+
 /* The thread that was interrupted is in its shard, or about to go in or out, and has neither the gate nor central: so
-   whoever is in another shard can leave it. It stays there, and the notes on its blocks may be in the middle of a change.
-   Who has the gate may wait for this shard: so nobody waits for the gate here. */
+   whoever is in another shard can leave it. It stays there, and the notes on its blocks may be in the middle of a
+   change. Who has the gate may wait for this shard: so nobody waits for the gate here. */
 bool heap_close_here(void)
 {
     if (heap_is_locked_here())
         return true;
     if (has == HAS_ALL || arena_changing != 0 || !lock_try(&heap.gate))
         return false;
-    close_all();
-    has_closed = true;
-    return true;
-}
-
-static void open_others(void)
-{
-    has_closed = false;
-    atomic_store(&heap.is_closed, false);
-    lock_give(&heap.gate);
+    has_closed = close_all(SHORT_TIME);
+    if (!has_closed)
+        open_others();
+    return has_closed;
 }
 
 void heap_unlock(void)

@@ -52,6 +52,8 @@ def check_run(suite: Suite, folder: str, program: str) -> None:
     with open(f"{folder}/r.json", "rb") as file:
         text = file.read()
     expect((b"heap-use-after-free" in text, b"use-after-poison" in text), (True, False), text[-3000:])
+    ran = run([RUN, "--", program, "forgotten"], folder, ASANCOL=suite.asancol)
+    expect(b"  freed long ago: its exact size and its stacks are no longer kept\n" in ran.stderr, True, ran.stderr)
 
 
 def check_twice(suite: Suite, folder: str, program: str) -> None:

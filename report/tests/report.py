@@ -110,7 +110,7 @@ def trace_ends(folder: str) -> None:
 
 @report_test
 def notes_that_are_no_longer_kept(folder: str) -> None:
-    """Of a block that was freed long ago the size class may be known, or nothing. Each form says so, also read again."""
+    """Of a block that was freed long ago the size class is known, or nothing. Each form says so, also read again."""
     program = build(folder)
     note = "freed long ago: its exact size and its stacks are no longer kept"
     for block, size, near in ((0x2000, 16, "0x2000 is byte 0 of a freed block of at most 16 bytes"),

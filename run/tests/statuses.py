@@ -88,16 +88,21 @@ RUNS: Dict[str, Tuple[str, int, List[str]]] = {
     "checker's memory": ("--memory 1048576 -- PROGRAM sound", 0, []),
     "quarantine": ("--quarantine 0 -- sh -c 'PROGRAM many 9 && test $ASANCOL_QUARANTINE = 0'", 0, []),
     "quarantine of the command": ("-- env ASANCOL_QUARANTINE=100 PROGRAM many 500", 0, ["all complete"]),
-    "quarantine of a child": ("--full -- sh -c 'PROGRAM sound; export ASANCOL_QUARANTINE=0; PROGRAM sound; PROGRAM sound'",
-                              0, [
-        "all complete\nasancol: process ",
-        "programs: held back 0 bytes of freed memory (ASANCOL_QUARANTINE), so uses after free may be missed; "
-        "and so did 1 more",
-    ]),
-    "quarantine of a child, quiet": ("-q -- env ASANCOL_QUARANTINE=0 PROGRAM sound", 0, ["!asancol"]),
-    "quarantine of a lean child": ("-- sh -c 'ASANCOL_QUARANTINE=0 PROGRAM sound; ASANCOL_FULL=1 ASANCOL_QUARANTINE=7 "
-                                   "PROGRAM sound'", 0, ["!held back 0", "held back 7 bytes of freed memory (", "!and"]),
-    "quarantine of a child that is no lower": ("--full -- env ASANCOL_QUARANTINE=268435456 PROGRAM sound", 0, ["!held back"]),
+    "quarantine of a child": (
+        "--full -- sh -c 'PROGRAM sound; export ASANCOL_QUARANTINE=0; PROGRAM sound; PROGRAM sound'", 0, [
+            "all complete\nasancol: process ",
+            "programs: held back 0 bytes of freed memory (ASANCOL_QUARANTINE), so uses after free may be missed; "
+            "and so did 1 more",
+        ]
+    ),
+    "quarantine of a child, quiet": ("--full -q -- env ASANCOL_QUARANTINE=0 PROGRAM sound", 0, ["!asancol"]),
+    "quarantine of a lean child": (
+        "-- sh -c 'ASANCOL_QUARANTINE=0 PROGRAM sound; ASANCOL_FULL=1 ASANCOL_QUARANTINE=7 PROGRAM sound'", 0,
+        ["!held back 0", "held back 7 bytes of freed memory (ASANCOL_QUARANTINE)", "!and so did"]
+    ),
+    "quarantine of a child that is no lower": (
+        "--full -- env ASANCOL_QUARANTINE=268435456 PROGRAM sound", 0, ["!held back"]
+    ),
     "quarantine of a lean run": ("--quarantine 1 -- PROGRAM sound", 0, ["all complete\n", "!held back"]),
     "quarantine of a run": ("--full --quarantine 1 -- sh -c 'PROGRAM sound; PROGRAM sound'", 0, [
         "complete\nasancol: 1 byte of freed memory is held back (--quarantine), so uses after free may be missed\n",
