@@ -90,7 +90,8 @@ static void add_for_all(struct strings *texts, const struct options *options)
     char *all;
     if (asprintf(&all, "%" PRIu64 " byte%s of freed memory %s held back (%s), so uses after free may be missed",
                  options->held, plural(options->held, "s"), options->held == 1 ? "is" : "are",
-                 options->quarantine != NULL ? "--quarantine" : "ASANCOL_QUARANTINE") < 0)
+                 options->quarantine != NULL ? "--quarantine" : "ASANCOL_QUARANTINE")
+        < 0)
         must(NULL);
     strings_add(texts, all);
 }

@@ -474,10 +474,12 @@ static void distinct(size_t of)
 static const struct {
     const char *name;
     void (*run)(size_t of);
-} all[] = {{"late", late},        {"twice", twice},   {"pass", pass},           {"loop", loop},
-           {"give", give},        {"forks", forks},   {"shorts", shorts},       {"calls", calls},
-           {"sizes", sizes},      {"locked", locked}, {"forgotten", forgotten}, {"handlers", handlers},
-           {"distinct", distinct}, {"limited", limited}, {"locked_by_user", locked_by_user}, {"alive", alive}};
+} all[] = {{"late", late},         {"twice", twice},         {"pass", pass},
+           {"loop", loop},         {"give", give},           {"forks", forks},
+           {"shorts", shorts},     {"calls", calls},         {"sizes", sizes},
+           {"locked", locked},     {"forgotten", forgotten}, {"handlers", handlers},
+           {"distinct", distinct}, {"limited", limited},     {"locked_by_user", locked_by_user},
+           {"alive", alive}};
 
 int main(int count, char **argv)
 {

@@ -337,7 +337,7 @@ static void large(int rounds)
         (void)block[100];
         (void)block[FAR];
         (void)block[FAR + 8];
-        (void)block[100];
+        (void)block[200];
         (void)block[LARGE - 1];
         (void)block[-1];
         free((void *)block);
@@ -348,10 +348,20 @@ static void large(int rounds)
 static const struct {
     const char *name;
     void (*run)(int rounds);
-} programs[] = {
-    {"handlers", handlers}, {"frees", frees}, {"turns", turns}, {"vforks", vforks},       {"vfork_frees", vfork_frees},
-    {"stacks", stacks},     {"jumps", jumps}, {"exits", exits}, {"scattered", scattered}, {"wrong_after", wrong_after},
-    {"limited", limited},   {"large", large}, {"joined", joined},     {"threaded", threaded}};
+} programs[] = {{"handlers", handlers},
+                {"frees", frees},
+                {"turns", turns},
+                {"vforks", vforks},
+                {"vfork_frees", vfork_frees},
+                {"stacks", stacks},
+                {"jumps", jumps},
+                {"exits", exits},
+                {"scattered", scattered},
+                {"wrong_after", wrong_after},
+                {"limited", limited},
+                {"large", large},
+                {"joined", joined},
+                {"threaded", threaded}};
 
 int main(int count, char **argv)
 {
