@@ -50,7 +50,7 @@ static const char *map_at(uint64_t address, int advice)
     void *at = (void *)address;
     long start = system_mmap(at, SHADOW_BYTES, PROT_READ | PROT_WRITE, flags, -1, 0);
     if (start < 0 && start != -EEXIST)
-        return start == -ENOMEM ? "address space is limited (ulimit -v, or vm.overcommit_memory=2)"
+        return start == -ENOMEM ? "address space is limited (ulimit -v or -d, or vm.overcommit_memory=2)"
                                 : error_text((int)-start);
     /* A system that does not know MAP_FIXED_NOREPLACE takes the address for a hint. */
     if (start > 0 && start != (long)at)

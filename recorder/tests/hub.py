@@ -633,7 +633,7 @@ def marks(folder: str) -> List[Tuple[str, str]]:
 
 def check_word(suite: Suite, folder: str, program: str, lives: str) -> None:
     """A process that is not recorded leaves word, or sends it."""
-    room = "address space is limited (ulimit -v, or vm.overcommit_memory=2)"
+    room = "address space is limited (ulimit -v or -d, or vm.overcommit_memory=2)"
     run_under(folder, ["sh", "-c", f"ulimit -v 1000000; exec {program} behind"], 127)
     expect(marks(folder), [(program, room)], "without room for the shadow")
     peers, _ = run_under(folder, [program, "behind"], ASANCOL_TRACE=f"{folder}/elsewhere")
