@@ -74,7 +74,7 @@ static struct block *take_block(size_t bytes, size_t size)
     unsigned class = class_of(bytes, &slot_size);
     if (heap_is_ordered())
         return quarantine_take_slot(class, slot_size);
-    return shard_take_slot(shard != NULL ? shard : shards_common(), class, slot_size);
+    return shard_take_slot(shard != NULL ? shard : shards_common(), class, slot_size).block;
 }
 
 /* Where it is poison round a block that lies in units of its own. */
@@ -97,18 +97,21 @@ static void poison_around(const struct block *block, uintptr_t address, size_t s
     }
 }
 
-static void write_notes(struct block *block, uintptr_t address, const struct use *use, struct origin from)
+static struct block notes_on(enum block_state state, size_t offset, const struct use *use)
 {
-    struct block now = {.state = NOTE_NOW(block->all_bits) & ((1 << STATE_BITS) - 1),
-                        .family = use->family & ((1 << FAMILY_BITS) - 1),
-                        .is_ignored = ignoring != 0};
-    now.offset = (address - (uintptr_t)slot_start(block)) / ALIGNMENT & ((1 << OFFSET_BITS) - 1);
-    block_write(block, now);
-    if (arena.call_sites != NULL) {
-        struct call_sites *call_sites = &arena.call_sites[block - arena.blocks];
-        SET_NOTE(call_sites->allocated, origin_place(from));
-        SET_NOTE(call_sites->freed, 0);
-    }
+    return (struct block){.state = state & ((1 << STATE_BITS) - 1),
+                          .family = use->family & ((1 << FAMILY_BITS) - 1),
+                          .is_ignored = ignoring != 0,
+                          .offset = offset / ALIGNMENT & ((1 << OFFSET_BITS) - 1)};
+}
+
+static inline void note_call_site(const struct block *block, struct origin from)
+{
+    if (arena.call_sites == NULL)
+        return;
+    struct call_sites *call_sites = &arena.call_sites[block - arena.blocks];
+    SET_NOTE(call_sites->allocated, origin_place(from));
+    SET_NOTE(call_sites->freed, 0);
 }
 
 static void note_malloc(uintptr_t address, size_t size)
@@ -126,7 +129,9 @@ static void *place_block(size_t size, size_t alignment, struct origin from, cons
     if (block == NULL)
         return NULL;
     uintptr_t address = place_in(block, size, alignment);
-    write_notes(block, address, use, from);
+    enum block_state before = NOTE_NOW(block->all_bits) & ((1 << STATE_BITS) - 1);
+    block_write(block, notes_on(before, address - (uintptr_t)slot_start(block), use));
+    note_call_site(block, from);
     poison_around(block, address, size);
     if (size > MAX_BLOCK_SIZE) {
         /* It can't be spelled, so it is no block for the checker: memory between poison. */
@@ -147,6 +152,28 @@ static void *place_block(size_t size, size_t alignment, struct origin from, cons
     return (void *)address;
 }
 
+/* Likewise in a slot, of a thread that is in its shard: so nothing is recorded. */
+static inline __attribute__((always_inline)) void *place_in_slot(struct shard *shard, size_t size, struct origin from,
+                                                                 const struct use *use)
+{
+    uint32_t slot_size;
+    unsigned class = class_of(room_for(size, ALIGNMENT), &slot_size);
+    struct slot slot = shard_take_slot(shard, class, slot_size);
+    uintptr_t address = slot.start + REDZONE;
+    if (slot.block == NULL)
+        return NULL;
+    note_call_site(slot.block, from);
+    SET_NOTE(slot.block->size, (uint32_t)size);
+    SET_NOTE(slot.block->alignment, use->alignment);
+    note_left_out(shard);
+    if (!heap.is_unpainted)
+        paint_redzones(address, size);
+    block_write(slot.block, notes_on(BLOCK_LIVE, REDZONE, use));
+    if (!heap.is_unpainted)
+        paint_live(address, size);
+    return (void *)address;
+}
+
 /* Without a recorder the process might have this memory: so no more recording, and nothing held back. */
 static void *place_at_last(size_t size, size_t alignment, struct origin from, const struct use *use)
 {
@@ -157,16 +184,22 @@ static void *place_at_last(size_t size, size_t alignment, struct origin from, co
     return place_block(size, alignment, from, use);
 }
 
-/* At each call of the allocator: while memory waits to be given back, some look at the clock. */
-static void count_call(void)
+static __attribute__((noinline)) void look_at_clock(void)
 {
     enum { CALLS = 16 }; /* a look at the clock takes longer than the rest of a call that does little */
     static _Thread_local uint32_t calls;
-    if (LIKELY(NOTE_NOW(arena.waiting) == 0) || ++calls % CALLS != 0)
+    if (++calls % CALLS != 0)
         return;
     central_take();
     arena_look_at_clock();
     central_give();
+}
+
+/* At each call of the allocator: while memory waits to be given back, some look at the clock. */
+static inline void count_call(void)
+{
+    if (UNLIKELY(NOTE_NOW(arena.waiting) != 0))
+        look_at_clock();
 }
 
 /* Before the first block. */
@@ -178,36 +211,75 @@ static bool find_arena(void)
     return is_found;
 }
 
-static void *allocate(size_t size, size_t alignment, bool zeroed, struct origin from)
+/* Whether such a block lies in a slot. */
+static inline bool is_small(size_t size, size_t alignment)
+{
+    return size <= MAX_SLOT_SIZE && room_for(size, alignment) <= MAX_SLOT_SIZE;
+}
+
+/* In this thread's shard. Null: all, or more memory, are needed for it. */
+static inline void *allocate_quickly(size_t size, struct origin from, const struct use *use)
 {
     void *address = NULL;
-    struct use use = origin_take_use();
+    if (UNLIKELY(heap_is_ordered() || !arena_is_found() || !heap_enter()))
+        return NULL;
+    struct shard *shard = heap_shard();
+    if (LIKELY(shard != NULL))
+        address = place_in_slot(shard, size, from, use);
+    count_call();
+    heap_leave();
+    return address;
+}
+
+/* By whoever was let in. */
+static void *allocate_entered(size_t size, size_t alignment, struct origin from, const struct use *use)
+{
+    void *address = NULL;
+    count_call();
+    if (arena_is_found() || find_arena())
+        address = place_block(size, alignment, from, use);
+    if (address == NULL && heap_is_ordered())
+        address = place_at_last(size, alignment, from, use);
+    if (address == NULL)
+        note_malloc(0, size); /* refused */
+    heap_leave();
+    if (address != NULL && size > MAX_BLOCK_SIZE)
+        record_regions(CODE_UNPOISON, (uintptr_t)address, size);
+    return address;
+}
+
+static __attribute__((noinline)) void *allocate_slowly(size_t size, size_t alignment, bool zeroed, struct origin from,
+                                                       const struct use *use)
+{
+    void *address = NULL;
     bool fits = size <= PTRDIFF_MAX - UNIT && alignment <= MAX_ALIGNMENT;
-    if (!fits || !heap_enter()) {
-        address = fits ? spare_take(size, alignment) : NULL;
-        zeroed = false; /* it is zeros */
-        if (address != NULL)
-            side_note_skipped(SKIPPED_SPARE);
-    } else {
-        count_call();
-        if (arena_is_found() || find_arena())
-            address = place_block(size, alignment, from, &use);
-        if (address == NULL && heap_is_ordered())
-            address = place_at_last(size, alignment, from, &use);
-        if (address == NULL)
-            note_malloc(0, size); /* refused */
-        heap_leave();
-        if (address != NULL && size > MAX_BLOCK_SIZE)
-            record_regions(CODE_UNPOISON, (uintptr_t)address, size);
+    if (fits && heap_enter()) {
+        address = allocate_entered(size, alignment, from, use);
+        if (address != NULL && zeroed && is_small(size, alignment))
+            program_clear(address, size);
+        else if (address != NULL && zeroed)
+            arena_clear(address, size);
+    } else if (fits && (address = spare_take(size, alignment)) != NULL) {
+        side_note_skipped(SKIPPED_SPARE); /* it is zeros */
     }
-    if (UNLIKELY(address == NULL && size > MAX_REQUEST) && use.family == FAMILY_MALLOC)
+    if (address == NULL && size > MAX_REQUEST && use->family == FAMILY_MALLOC)
         families_note_too_big(size, from.caller);
     if (address == NULL)
         errno = ENOMEM;
-    else if (zeroed && room_for(size, alignment) <= MAX_SLOT_SIZE)
-        program_clear(address, size);
+    return address;
+}
+
+static inline __attribute__((always_inline)) void *allocate(size_t size, size_t alignment, bool zeroed,
+                                                            struct origin from)
+{
+    struct use use = origin_take_use();
+    void *address = NULL;
+    if (LIKELY(alignment == ALIGNMENT && is_small(size, ALIGNMENT)))
+        address = allocate_quickly(size, from, &use);
+    if (UNLIKELY(address == NULL))
+        address = allocate_slowly(size, alignment, zeroed, from, &use);
     else if (zeroed)
-        arena_clear(address, size);
+        program_clear(address, size);
     if (has_hooks() && address != NULL)
         hooks_after_malloc(address, size);
     return address;
@@ -220,51 +292,59 @@ void *heap_allocate(size_t size, size_t alignment, bool zeroed, uintptr_t caller
 
 /* Giving back. */
 
-static enum freeing free_entered(void *pointer, struct origin from, const char *call, struct use use)
+/* With all. */
+static __attribute__((noinline)) void give_back_slowly(void *pointer, struct origin from, const struct use *use,
+                                                       const char *call)
 {
-    enum freeing freeing = free_block(heap_shard(), pointer, from, call, use);
-    count_call();
-    heap_leave();
-    if (LIKELY(freeing != FREEING_NEEDS_ALL))
-        return freeing;
+    uintptr_t address = (uintptr_t)pointer;
+    int before = errno;
+    bool is_bad = false;
     if (heap_enter_all()) {
-        freeing = free_block(heap_shard(), pointer, from, call, use);
+        is_bad = free_with_all(address, from, use, call) == FREEING_BAD;
+        count_call();
         heap_leave();
     } else {
         heap_defer(pointer, from.caller, call);
     }
-    return freeing;
+    /* Nothing is recorded yet, and in the lock it could not begin. */
+    if (UNLIKELY(is_bad) && stream_state() == STATE_UNSTARTED)
+        record_bad_free(address, from.caller, call);
+    /* Out of the lock: what is called before the end may allocate. */
+    if (UNLIKELY(is_bad) && atomic_load(&halt_is_on)) {
+        struct access access = access_of(CODE_FREE, address, 0, from.caller, call);
+        above.halt_at(CODE_FREE, 0, address, from.caller, &access);
+    }
+    errno = before;
+}
+
+/* In this thread's shard. False: all are needed for it. */
+static inline bool give_back_quickly(uintptr_t address, struct origin from, const struct use *use)
+{
+    enum freeing freeing = FREEING_NEEDS_ALL;
+    if (UNLIKELY(heap_is_ordered() || !heap_enter()))
+        return false;
+    struct shard *shard = heap_shard();
+    if (LIKELY(shard != NULL))
+        freeing = free_in_shard(shard, address, from, use);
+    count_call();
+    heap_leave();
+    return freeing == FREEING_DONE;
 }
 
 /* By this function. */
-static void give_back(void *pointer, struct origin from, struct use use, const char *call)
+static inline void give_back(void *pointer, struct origin from, const struct use *use, const char *call)
 {
     if (has_hooks() && !hooks_before_free(pointer))
         return;
-    int before = errno;
-    bool is_bad = false;
-    if (is_spare(pointer))
+    if (UNLIKELY(is_spare(pointer)))
         spare_drop(pointer);
-    else if (heap_enter())
-        is_bad = free_entered(pointer, from, call, use) == FREEING_BAD;
-    else
-        heap_defer(pointer, from.caller, call);
-    /* Nothing is recorded yet, and in the lock it could not begin. */
-    if (UNLIKELY(is_bad) && stream_state() == STATE_UNSTARTED)
-        record_bad_free((uintptr_t)pointer, from.caller, call);
-    /* Out of the lock: what is called before the end may allocate. */
-    if (UNLIKELY(is_bad) && atomic_load(&halt_is_on)) {
-        struct access access = access_of(CODE_FREE, (uintptr_t)pointer, 0, from.caller, call);
-        above.halt_at(CODE_FREE, 0, (uintptr_t)pointer, from.caller, &access);
-    }
-    errno = before;
+    else if (UNLIKELY(!give_back_quickly((uintptr_t)pointer, from, use)))
+        give_back_slowly(pointer, from, use, call);
 }
 
 /* The notes on a block that is about to be freed come while something else is done. At any time: a hint. */
 static void prefetch_notes(uintptr_t address)
 {
-    if (!arena_is_found())
-        return;
     uintptr_t distance = address - (uintptr_t)arena.bytes;
     if (distance >= (size_t)UNITS * UNIT || !is_used((uint32_t)(distance / UNIT)))
         return;
@@ -285,8 +365,9 @@ void heap_give_back(void *pointer, uintptr_t caller)
     caller = origin_caller_or(caller);
     if (pointer == NULL)
         return;
-    prefetch_notes((uintptr_t)pointer);
-    give_back(pointer, origin_of(caller), use, "free");
+    if (origin_is_noted())
+        prefetch_notes((uintptr_t)pointer);
+    give_back(pointer, origin_of(caller), &use, "free");
 }
 
 size_t heap_live_size(void *pointer)
@@ -306,13 +387,14 @@ size_t heap_live_size(void *pointer)
 void *heap_move(void *old, size_t size, uintptr_t caller, const char *call)
 {
     caller = origin_caller_or(caller);
-    origin_forget_frame();
+    said.frame = 0;
     struct origin from = origin_of(caller);
     if (old == NULL)
         return allocate(size, ALIGNMENT, false, from);
     size_t before = heap_live_size(old);
     if (size == 0 || before == SIZE_MAX) {
-        give_back(old, from, origin_take_use(), call);
+        struct use use = origin_take_use();
+        give_back(old, from, &use, call);
         if (size != 0)
             errno = EINVAL;
         return NULL;
@@ -321,6 +403,7 @@ void *heap_move(void *old, size_t size, uintptr_t caller, const char *call)
     if (moved == NULL)
         return NULL;
     program_copy(moved, old, before < size ? before : size);
-    give_back(old, from, origin_take_use(), call);
+    struct use use = origin_take_use();
+    give_back(old, from, &use, call);
     return moved;
 }

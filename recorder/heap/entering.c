@@ -18,11 +18,7 @@
 struct heap heap;
 _Atomic uint64_t heap_bound = QUARANTINE_BOUND;
 
-static _Thread_local volatile enum { OUTSIDE, AT_THE_LOCK, INSIDE } is_inside;
-/* What it has, or is about to take. */
-static _Thread_local volatile enum { HAS_NOTHING, HAS_SHARD, HAS_ALL } has;
-/* The shard of this thread, or null: it has none yet, or its end has come. */
-static _Thread_local struct shard *own;
+_Thread_local struct visit this_visit;
 static _Thread_local bool is_over;
 
 /* What signal handlers have freed while this thread was in here: the newest first, and what was used for one and is not
@@ -41,12 +37,12 @@ enum { DEFERRED = 32 };
 static _Thread_local struct {
     struct deferred first[DEFERRED];
     _Atomic unsigned used; /* of these */
-    struct deferred *_Atomic waiting, *_Atomic unused;
+    struct deferred *_Atomic unused;
 } deferred;
 
 bool heap_is_entered(void)
 {
-    return is_inside != OUTSIDE;
+    return this_visit.is_inside != OUTSIDE;
 }
 
 /* A signal handler has closed the shards of all others. */
@@ -54,36 +50,12 @@ static _Thread_local bool has_closed;
 
 bool heap_is_locked_here(void)
 {
-    if (is_inside == INSIDE)
-        return has == HAS_ALL || has_closed || library_is_alone();
-    return is_inside == AT_THE_LOCK && (has_closed || library_is_alone());
-}
-
-struct shard *heap_shard(void)
-{
-    return has == HAS_SHARD ? own : NULL;
+    if (this_visit.is_inside == INSIDE)
+        return this_visit.has == HAS_ALL || has_closed || library_is_alone();
+    return this_visit.is_inside == AT_THE_LOCK && (has_closed || library_is_alone());
 }
 
 /* All shards. */
-
-/* Who goes in says so, and then looks whether all are closed. Who closes them says that, and then looks who is in. One
-   of the two sees the other: both are sequentially consistent, or the kernel makes it so for who closes (membarrier),
-   and who goes in needs no locked instruction. A thread that is alone need not say so. */
-static bool enter_own(void)
-{
-    if (library_is_alone())
-        return !atomic_load_explicit(&heap.is_closed, memory_order_relaxed);
-    if (LIKELY(atomic_load_explicit(&heap.has_barrier, memory_order_acquire))) {
-        atomic_store_explicit(&own->is_busy, true, memory_order_relaxed);
-        atomic_signal_fence(memory_order_seq_cst);
-    } else {
-        atomic_exchange(&own->is_busy, true);
-    }
-    if (LIKELY(!atomic_load(&heap.is_closed)))
-        return true;
-    atomic_store_explicit(&own->is_busy, false, memory_order_release);
-    return false;
-}
 
 static long membarrier(int command)
 {
@@ -119,7 +91,7 @@ static bool close_all(int most)
     if (atomic_load_explicit(&heap.has_barrier, memory_order_relaxed))
         membarrier(MEMBARRIER_CMD_PRIVATE_EXPEDITED);
     for (const struct shard *it = atomic_load(&heap.shards); it != NULL; it = it->next)
-        if (it != own && !wait_for(it, most))
+        if (it != this_visit.own && !wait_for(it, most))
             return false;
     return true;
 }
@@ -149,27 +121,27 @@ static void give_all(void)
 static void find_own(void)
 {
     bool alone = library_is_alone();
-    has = HAS_ALL; /* the gate's lock, as far as jumps are concerned */
+    this_visit.has = HAS_ALL; /* the gate's lock, as far as jumps are concerned */
     if (!alone)
         lock_take(&heap.gate);
     if (!alone && !atomic_load_explicit(&heap.has_barrier, memory_order_relaxed)
         && membarrier(MEMBARRIER_CMD_REGISTER_PRIVATE_EXPEDITED) == 0)
         atomic_store_explicit(&heap.has_barrier, true, memory_order_release);
-    own = shard_take();
+    this_visit.own = shard_take();
     if (!alone)
         lock_give(&heap.gate);
 }
 
 static void enter_somewhere(void)
 {
-    if (own == NULL && !is_over && !heap_is_ordered())
+    if (this_visit.own == NULL && !is_over && !heap_is_ordered())
         find_own();
     for (;;) {
-        has = HAS_SHARD;
-        if (own != NULL && enter_own())
+        this_visit.has = HAS_SHARD;
+        if (this_visit.own != NULL && enter_own())
             return;
-        has = HAS_ALL; /* the gate's lock, as far as jumps are concerned */
-        if (own == NULL || heap_is_ordered()) {
+        this_visit.has = HAS_ALL; /* the gate's lock, as far as jumps are concerned */
+        if (this_visit.own == NULL || heap_is_ordered()) {
             take_all();
             return;
         }
@@ -178,30 +150,31 @@ static void enter_somewhere(void)
     }
 }
 
-/* In which frame this thread has come in. */
-static _Thread_local uintptr_t entered_at;
-
 static bool was_left_at(uintptr_t frame);
 
 /* False: it is a handler that has interrupted this thread in here. */
 static bool may_enter(uintptr_t frame)
 {
-    if (UNLIKELY(is_inside != OUTSIDE) && !was_left_at(frame))
+    if (UNLIKELY(this_visit.is_inside != OUTSIDE) && !was_left_at(frame))
         return false;
-    entered_at = frame;
-    is_inside = AT_THE_LOCK;
-    atomic_signal_fence(memory_order_seq_cst);
+    visit_begin(frame, AT_THE_LOCK);
     return true;
 }
 
-bool heap_enter(void)
+bool enter_slowly(uintptr_t frame)
 {
-    if (!may_enter((uintptr_t)__builtin_frame_address(0)))
+    if (!may_enter(frame))
         return false;
-    has = HAS_SHARD;
-    if (UNLIKELY(own == NULL || !enter_own()))
-        enter_somewhere();
-    is_inside = INSIDE;
+    enter_somewhere();
+    this_visit.is_inside = INSIDE;
+    return true;
+}
+
+bool enter_again(void)
+{
+    this_visit.is_inside = AT_THE_LOCK;
+    enter_somewhere();
+    this_visit.is_inside = INSIDE;
     return true;
 }
 
@@ -209,9 +182,9 @@ bool heap_enter_all(void)
 {
     if (!may_enter((uintptr_t)__builtin_frame_address(0)))
         return false;
-    has = HAS_ALL;
+    this_visit.has = HAS_ALL;
     take_all();
-    is_inside = INSIDE;
+    this_visit.is_inside = INSIDE;
     return true;
 }
 
@@ -224,7 +197,7 @@ static void put_in_front(struct deferred *_Atomic *list, struct deferred *it)
 
 static void free_deferred(void)
 {
-    struct deferred *taken = atomic_exchange(&deferred.waiting, NULL), *in_order = NULL;
+    struct deferred *taken = atomic_exchange(&this_visit.waiting, NULL), *in_order = NULL;
     while (taken != NULL) {
         struct deferred *next = taken->next;
         taken->next = in_order;
@@ -234,39 +207,44 @@ static void free_deferred(void)
     while (in_order != NULL) {
         struct deferred *it = in_order;
         in_order = it->next;
-        free_block(NULL, it->pointer, origin_of(it->caller), it->call, (struct use){FAMILY_ANY, 0, 0});
+        struct use use = {FAMILY_ANY, 0, 0};
+        free_with_all((uintptr_t)it->pointer, origin_of(it->caller), &use, it->call);
         put_in_front(&deferred.unused, it);
     }
 }
 
 static bool has_deferred(void)
 {
-    return UNLIKELY(atomic_load_explicit(&deferred.waiting, memory_order_relaxed) != NULL);
+    return UNLIKELY(atomic_load_explicit(&this_visit.waiting, memory_order_relaxed) != NULL);
 }
 
 static void go_out(void)
 {
-    is_inside = AT_THE_LOCK;
+    this_visit.is_inside = AT_THE_LOCK;
     atomic_signal_fence(memory_order_seq_cst);
-    if (has == HAS_ALL)
+    if (this_visit.has == HAS_ALL)
         give_all();
-    else if (own != NULL && atomic_load_explicit(&own->is_busy, memory_order_relaxed))
-        atomic_store_explicit(&own->is_busy, false, memory_order_release);
-    has = HAS_NOTHING;
-    is_inside = OUTSIDE;
+    else if (this_visit.own != NULL)
+        leave_own();
+    visit_end();
 }
 
-void heap_leave(void)
+void free_what_waits(void)
 {
-    is_inside = INSIDE;
-    if (has == HAS_ALL)
-        while (has_deferred())
-            free_deferred();
-    go_out();
     while (has_deferred() && heap_enter_all()) {
         free_deferred();
         go_out();
     }
+}
+
+void leave_slowly(void)
+{
+    this_visit.is_inside = INSIDE;
+    if (this_visit.has == HAS_ALL)
+        while (has_deferred())
+            free_deferred();
+    go_out();
+    free_what_waits();
 }
 
 /* How often this thread, in signal handlers, has locked while it was in here already. */
@@ -292,7 +270,7 @@ bool heap_close_here(void)
 {
     if (heap_is_locked_here())
         return true;
-    if (has == HAS_ALL || arena_changing != 0 || !lock_try(&heap.gate))
+    if (this_visit.has == HAS_ALL || arena_changing != 0 || !lock_try(&heap.gate))
         return false;
     has_closed = close_all(SHORT_TIME);
     if (!has_closed)
@@ -314,7 +292,7 @@ void heap_unlock(void)
    still counts as live. False: it would not do, or it can't be known if the lock was taken already. */
 static bool leave_from_the_middle(void)
 {
-    bool may_have_all = has == HAS_ALL && is_inside == AT_THE_LOCK && !library_is_alone();
+    bool may_have_all = this_visit.has == HAS_ALL && this_visit.is_inside == AT_THE_LOCK && !library_is_alone();
     if (arena_changing != 0 || may_have_all)
         return false;
     atomic_store_explicit(&arena_was_left, true, memory_order_relaxed);
@@ -327,7 +305,8 @@ static bool leave_from_the_middle(void)
    that this thread has interrupted, if that has come in below it. */
 static bool was_left_at(uintptr_t frame)
 {
-    if (is_inside == OUTSIDE || frame < entered_at || !above.is_own_frame(frame) || !above.is_own_frame(entered_at))
+    if (this_visit.is_inside == OUTSIDE || frame < this_visit.frame || !above.is_own_frame(frame)
+        || !above.is_own_frame(this_visit.frame))
         return false;
     bool is_left = leave_from_the_middle();
     if (!is_left)
@@ -343,9 +322,9 @@ void heap_left_by_jump(uintptr_t target)
 void heap_ends_here(void)
 {
     note_all_left_out();
-    if (is_inside == OUTSIDE || !has_deferred() || leave_from_the_middle())
+    if (this_visit.is_inside == OUTSIDE || !has_deferred() || leave_from_the_middle())
         return;
-    for (const struct deferred *it = atomic_load(&deferred.waiting); it != NULL; it = it->next)
+    for (const struct deferred *it = atomic_load(&this_visit.waiting); it != NULL; it = it->next)
         side_note_finding_lost();
 }
 
@@ -355,20 +334,20 @@ void heap_ends_here(void)
 static void give_own(void)
 {
     bool alone = library_is_alone();
-    has = HAS_ALL; /* the gate's lock, as far as jumps are concerned */
+    this_visit.has = HAS_ALL; /* the gate's lock, as far as jumps are concerned */
     if (!alone)
         lock_take(&heap.gate);
-    shard_give(own);
-    own = NULL;
+    shard_give(this_visit.own);
+    this_visit.own = NULL;
     is_over = true;
     if (!alone)
         lock_give(&heap.gate);
-    has = HAS_NOTHING;
+    this_visit.has = HAS_NOTHING;
 }
 
 void heap_thread_ends(void)
 {
-    if (own == NULL || !may_enter((uintptr_t)__builtin_frame_address(0)))
+    if (this_visit.own == NULL || !may_enter((uintptr_t)__builtin_frame_address(0)))
         return;
     give_own();
     heap_leave();
@@ -378,7 +357,7 @@ void heap_is_alone(void)
 {
     for (struct shard *it = atomic_load(&heap.shards); it != NULL; it = it->next)
         atomic_store_explicit(&it->is_busy, false, memory_order_relaxed);
-    shards_are_left(own);
+    shards_are_left(this_visit.own);
 }
 
 /* Whatever a handler frees while its thread is in here. */
@@ -423,5 +402,5 @@ void heap_defer(void *pointer, uintptr_t caller, const char *call)
     it->pointer = pointer;
     it->caller = caller;
     it->call = call;
-    put_in_front(&deferred.waiting, it);
+    put_in_front(&this_visit.waiting, it);
 }

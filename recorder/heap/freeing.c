@@ -1,5 +1,7 @@
 #include "heap/freeing.h"
 
+#include <errno.h>
+
 #include "calls/library.h"
 #include "heap/families.h"
 #include "heap/paint.h"
@@ -24,13 +26,17 @@ void note_all_left_out(void)
         note_left_good(it);
 }
 
-void note_left_out(struct shard *shard)
+/* The program's errno stays. */
+void wake_stream(void)
+{
+    int before = errno;
+    stream_wake();
+    errno = before;
+}
+
+void count_left_out(struct shard *shard)
 {
     enum { AT_ONCE = 256 };
-    if (UNLIKELY(!is_on()) && !atomic_load_explicit(&STREAM->is_idle, memory_order_relaxed))
-        stream_wake();
-    if (!is_lean())
-        return;
     if (shard == NULL || library_is_alone()) {
         side_note_left_good();
         return;
@@ -41,7 +47,7 @@ void note_left_out(struct shard *shard)
         note_left_good(shard);
 }
 
-static void note_call_site(const struct block *block, struct origin from)
+static inline void note_call_site(const struct block *block, struct origin from)
 {
     if (arena.call_sites != NULL)
         SET_NOTE(arena.call_sites[block - arena.blocks].freed, origin_place(from));
@@ -63,35 +69,49 @@ static bool take_from_program(struct block *block, struct block now)
 }
 
 /* A block whose address is never handed out again, or not before its unit is opened again. */
-static enum freeing free_forward(struct shard *shard, struct block *block, uintptr_t address, struct origin from,
-                                 struct block now)
+static inline __attribute__((always_inline)) enum freeing
+free_forward(struct shard *shard, struct block *block, uintptr_t address, struct origin from, struct block now)
 {
+    uint32_t unit = unit_of(block);
     if (!take_from_program(block, now))
         return FREEING_NEEDS_ALL;
-    if (!heap.is_unpainted && arena.units[unit_of(block)].kind == UNIT_SLAB)
+    if (!heap.is_unpainted && arena.units[unit].kind == UNIT_SLAB)
         paint_held(address, block->size);
     note_call_site(block, from);
     note_left_out(shard);
-    forward_bury(shard, block);
+    forward_bury(shard, block, unit);
     return FREEING_DONE;
 }
 
-/* Whether it is given back as it was made, or nobody can say that it is not. */
-static bool is_as_made(const struct block *block, const struct release *release)
+static struct release release_of(uintptr_t address, struct origin from, const struct use *use, const char *call)
 {
-    bool has_size = release->size_and_one == 0 || release->size_and_one - 1 == NOTE_NOW(block->size);
-    bool is_same = block->family == release->family && NOTE_NOW(block->alignment) == release->alignment;
-    return LIKELY(has_size && is_same) || !families_differ(block, release);
+    return (struct release){address, from.caller, said.frame, call, use->family, use->alignment, use->size_and_one};
 }
 
-static enum freeing free_in_shard(struct shard *shard, struct origin from, const struct release *release)
+static __attribute__((noinline)) bool differ(const struct block *block, uintptr_t address, struct origin from,
+                                             const struct use *use)
 {
-    uintptr_t address = release->address, start;
+    struct release release = release_of(address, from, use, "free");
+    return families_differ(block, &release);
+}
+
+/* Whether it is given back as it was made. */
+static bool is_as_made(const struct block *block, const struct use *use)
+{
+    bool has_size = use->size_and_one == 0 || use->size_and_one - 1 == NOTE_NOW(block->size);
+    return has_size && block->family == use->family && NOTE_NOW(block->alignment) == use->alignment;
+}
+
+enum freeing free_in_shard(struct shard *shard, uintptr_t address, struct origin from, const struct use *use)
+{
+    uintptr_t start;
     struct block *block = block_around(address, &start), now = {0};
-    if (block == NULL)
+    if (UNLIKELY(block == NULL))
         return FREEING_NEEDS_ALL;
     now.all_bits = NOTE_NOW(block->all_bits);
-    if (now.state != BLOCK_LIVE || block_address(&now, start) != address || !is_as_made(block, release))
+    if (UNLIKELY(now.state != BLOCK_LIVE || block_address(&now, start) != address))
+        return FREEING_NEEDS_ALL;
+    if (UNLIKELY(!is_as_made(block, use)) && differ(block, address, from, use))
         return FREEING_NEEDS_ALL;
     return free_forward(shard, block, address, from, now);
 }
@@ -104,7 +124,7 @@ static void free_unrecorded(struct block *block)
         quarantine_release(block);
     } else {
         block_go(block, BLOCK_FREE);
-        forward_bury(NULL, block);
+        forward_bury(NULL, block, unit_of(block));
     }
 }
 
@@ -120,13 +140,10 @@ static void free_in_order(struct block *block, uintptr_t address, struct origin 
     quarantine_hold(block);
 }
 
-enum freeing free_block(struct shard *shard, void *pointer, struct origin from, const char *call, struct use use)
+enum freeing free_with_all(uintptr_t address, struct origin from, const struct use *use, const char *call)
 {
-    uintptr_t address = (uintptr_t)pointer;
-    struct release release = {address, from.caller, origin_frame(), call, use.family, use.alignment, use.size_and_one};
-    if (LIKELY(shard != NULL))
-        return free_in_shard(shard, from, &release);
-    struct block *block = block_from(pointer);
+    struct release release = release_of(address, from, use, call);
+    struct block *block = block_from((const void *)address);
     if (block != NULL && is_in_use(block))
         families_look_at(block, &release);
     if (block != NULL && block->state == BLOCK_UNRECORDED) {

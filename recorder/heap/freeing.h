@@ -5,7 +5,9 @@
 #include <stdbool.h>
 
 #include "heap/blocks.h"
+#include "heap/families.h"
 #include "heap/origin.h"
+#include "stream/state.h"
 
 enum freeing {
     FREEING_DONE,
@@ -13,11 +15,22 @@ enum freeing {
     FREEING_NEEDS_ALL /* a shard is not enough to say what it is: nothing was done */
 };
 
-/* By this function. In a shard, or with all if that is null. */
-enum freeing free_block(struct shard *shard, void *pointer, struct origin from, const char *call, struct use use);
+/* By whoever is in this shard, and by who has all. A call is `free` or `realloc`. */
+enum freeing free_in_shard(struct shard *shard, uintptr_t address, struct origin from, const struct use *use);
+enum freeing free_with_all(uintptr_t address, struct origin from, const struct use *use, const char *call);
+
+void wake_stream(void);
+void count_left_out(struct shard *shard);
 
 /* A malloc or a free that is not recorded one by one is counted, and a child that no fork has announced says so. */
-void note_left_out(struct shard *shard);
+static inline void note_left_out(struct shard *shard)
+{
+    if (UNLIKELY(!is_on()) && !atomic_load_explicit(&STREAM->is_idle, memory_order_relaxed))
+        wake_stream();
+    if (is_lean())
+        count_left_out(shard);
+}
+
 /* What is counted in shards is counted beside the stream too. At any time. */
 void note_all_left_out(void);
 

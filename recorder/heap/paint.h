@@ -36,8 +36,10 @@ static inline void paint_granules(unsigned char *at, size_t count, unsigned char
         memset(at, shade, count);
         return;
     }
-    for (; count >= sizeof shades; count -= sizeof shades, at += sizeof shades)
+    for (; count >= sizeof shades; count -= sizeof shades, at += sizeof shades) {
         __builtin_memcpy(at, &shades, sizeof shades);
+        __asm__ volatile("" : : "r"(at) : "memory"); /* else compilers call memset here */
+    }
     for (; count > 0; count--)
         *(volatile unsigned char *)at++ = shade;
 }

@@ -1,14 +1,11 @@
 #include "heap/program_hooks.h"
 
-#include <stdatomic.h>
-
-#include "base/platform.h"
 #include "heap/heap.h"
 
 /* Five, and those that the program defines. */
 enum { MAX_HOOKS = 6 };
 static struct heap_hooks all_hooks[MAX_HOOKS];
-static _Atomic int hook_count;
+_Atomic int hook_count;
 
 int heap_add_hooks(struct heap_hooks hooks)
 {
@@ -20,11 +17,6 @@ int heap_add_hooks(struct heap_hooks hooks)
     atomic_store(&hook_count, count + 1);
     has_by_name |= hooks.is_by_name;
     return count + 1 - has_by_name;
-}
-
-bool has_hooks(void)
-{
-    return UNLIKELY(atomic_load_explicit(&hook_count, memory_order_relaxed) != 0);
 }
 
 void hooks_after_malloc(const void *start, size_t size)

@@ -2,10 +2,19 @@
 #ifndef ASANCOL_PROGRAM_HOOKS_H
 #define ASANCOL_PROGRAM_HOOKS_H
 
+#include <stdatomic.h>
 #include <stdbool.h>
 #include <stddef.h>
 
-bool has_hooks(void);
+#include "base/platform.h"
+
+extern _Atomic int hook_count;
+
+static inline bool has_hooks(void)
+{
+    return UNLIKELY(atomic_load_explicit(&hook_count, memory_order_relaxed) != 0);
+}
+
 void hooks_after_malloc(const void *start, size_t size);
 /* False: the program keeps the block, and nobody else is called. */
 bool hooks_before_free(const void *start);

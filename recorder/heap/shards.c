@@ -202,11 +202,9 @@ static bool is_settled(const struct block *block)
     return now.state == BLOCK_HELD && __atomic_load_n(&block->settled, __ATOMIC_ACQUIRE) == BLOCK_SETTLED;
 }
 
-/* The next slot of a slab that may be handed out; or null: there is none. */
-static struct block *next_slot(struct slab *slab)
+/* The next slot of a slab that was handed out before; or null: none is free. */
+static struct block *next_free_slot(struct slab *slab)
 {
-    if (!slab->is_again)
-        return block_at(slab->unit, slab->next++);
     while (slab->next < slab->end) {
         struct block *block = block_at(slab->unit, slab->next++);
         if (is_settled(block)) {
@@ -217,28 +215,42 @@ static struct block *next_slot(struct slab *slab)
     return NULL;
 }
 
-struct block *shard_take_slot(struct shard *shard, unsigned class, uint32_t slot_size)
+/* The next slot of a slab that has one that was never handed out. */
+static struct slot next_slot(struct slab *slab)
+{
+    struct unit *unit = &arena.units[slab->unit];
+    uint32_t number = slab->next++;
+    uintptr_t start = (uintptr_t)unit_start(slab->unit) + unit->lead + (size_t)number * unit->slot_size;
+    SET_NOTE(unit->used, slab->next);
+    return (struct slot){block_at(slab->unit, number), start};
+}
+
+/* From a slab that is new, or that was handed out before. */
+static struct slot take_from_other(struct shard *shard, unsigned class, uint32_t slot_size)
 {
     struct slab *slab = &shard->slabs[class];
-    if (shard->free[class] != NULL) {
-        struct block *free = shard->free[class];
-        shard->free[class] = free->next;
-        shard->free_bytes[class] -= slot_size;
-        return free;
-    }
-    for (;;) {
+    struct slot slot = {NULL, 0};
+    while (slot.block == NULL) {
         if (slab->unit != 0 && slab->next == slab->end)
             close_slab(shard, slab); /* a handler has jumped out before that was done */
         if (slab->unit == 0 && !open_some(shard, class, slot_size))
-            return NULL;
-        struct block *block = next_slot(slab);
-        if (block != NULL && !slab->is_again)
-            SET_NOTE(arena.units[slab->unit].used, slab->next);
+            return slot;
+        if (!slab->is_again)
+            slot = next_slot(slab);
+        else if ((slot.block = next_free_slot(slab)) != NULL)
+            slot.start = (uintptr_t)slot_start(slot.block);
         if (slab->next == slab->end)
             close_slab(shard, slab);
-        if (block != NULL)
-            return block;
     }
+    return slot;
+}
+
+struct slot shard_take_other(struct shard *shard, unsigned class, uint32_t slot_size)
+{
+    struct slab *slab = &shard->slabs[class];
+    if (LIKELY(slab->unit != 0 && !slab->is_again && slab->next + 1 < slab->end))
+        return next_slot(slab);
+    return take_from_other(shard, class, slot_size);
 }
 
 /* Runs. */
@@ -326,9 +338,8 @@ static bool is_kept_free(struct shard *shard, struct block *block, uint32_t unit
     return true;
 }
 
-void forward_bury(struct shard *shard, struct block *block)
+void forward_bury(struct shard *shard, struct block *block, uint32_t unit)
 {
-    uint32_t unit = unit_of(block);
     if (arena.units[unit].kind == UNIT_RUN) {
         retire_run(unit);
         return;
@@ -356,7 +367,7 @@ bool shards_give_back(void)
 
 static void stop(struct shard *shard)
 {
-    for (unsigned class = 0; class < CLASSES; class++) {
+    for (unsigned class = 0; class < CLASSES; class ++) {
         shard->slabs[class].unit = 0;
         shard->free[class] = NULL;
         shard->free_bytes[class] = 0;

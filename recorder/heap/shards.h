@@ -26,12 +26,30 @@ void shards_are_left(struct shard *own);
 /* That of who has all, and no shard. */
 struct shard *shards_common(void);
 
-/* A slot of a class, of whoever is in this shard; or null: there is no memory. */
-struct block *shard_take_slot(struct shard *shard, unsigned class, uint32_t slot_size);
+/* The notes on a slot, and where it begins. Null: there is no memory. */
+struct slot {
+    struct block *block;
+    uintptr_t start;
+};
+
+struct slot shard_take_other(struct shard *shard, unsigned class, uint32_t slot_size);
+
+/* A slot of a class, of whoever is in this shard. */
+static inline struct slot shard_take_slot(struct shard *shard, unsigned class, uint32_t slot_size)
+{
+    struct block *free = shard->free[class];
+    if (free == NULL)
+        return shard_take_other(shard, class, slot_size);
+    shard->free[class] = free->next;
+    shard->free_bytes[class] -= slot_size;
+    return (struct slot){free, (uintptr_t)slot_start(free)};
+}
+
 /* A run of units, which are poison unless it is big; or null. */
 struct block *forward_take_run(size_t count);
-/* The block is freed for good: its shadow says so, and its notes. In this shard, or with all if that is null. */
-void forward_bury(struct shard *shard, struct block *block);
+/* The block of this unit is freed for good: its shadow says so, and its notes. In this shard, or with all if that is
+   null. */
+void forward_bury(struct shard *shard, struct block *block, uint32_t unit);
 /* Memory that waits to be given back. With all. False: there is none. */
 bool shards_give_back(void);
 /* No more of it: what shards have open stays as it is. With all. */

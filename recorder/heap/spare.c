@@ -6,11 +6,6 @@
 #include "base/system.h"
 #include "heap/blocks.h"
 
-bool is_spare(const void *pointer)
-{
-    return arena_is_found() && (uintptr_t)pointer - (uintptr_t)arena.spare < SPARE_BYTES;
-}
-
 void *spare_take(size_t size, size_t alignment)
 {
     if (arena.bytes == NULL || size > SPARE_BYTES || alignment > SPARE_BYTES)

@@ -7,10 +7,15 @@
 #include <stddef.h>
 
 #include "base/platform.h"
+#include "heap/arena.h"
 
 enum { SPARE_HEADER = 16, SPARE_PIECE = PAGE - 2 * SPARE_HEADER };
 
-bool is_spare(const void *pointer);
+static inline bool is_spare(const void *pointer)
+{
+    return arena_is_found() && (uintptr_t)pointer - (uintptr_t)arena.spare < SPARE_BYTES;
+}
+
 /* Zeros; null: there is no memory. */
 void *spare_take(size_t size, size_t alignment);
 size_t spare_size(const void *pointer);
