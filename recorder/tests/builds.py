@@ -335,6 +335,28 @@ def check_kinds(suite, folder, compiler):
     made.cc("-c", "main.c", command=unknown, warning=warning)
 
 
+def check_own_flag(suite, folder, compiler):
+    """-fsanitize=address and =leak ask for what the wrapper and asancol-run do; others stay."""
+    made = Builder(suite, folder, compiler)
+    write(folder, flags="-fsanitize=undefined,address\n", wide_c="int wide(int by) { return 1 << by; }\n")
+    for flags in (
+        ["-fsanitize=address"], ["-fsanitize=leak"], ["-fsanitize=leak,address"], ["@flags"],
+        ["-fsanitize=address", "-flto"],
+        ["-fsanitize=address", "-fno-sanitize-recover=all"], ["-fno-sanitize=address", "-fsanitize=address"],
+        ["-fsanitize=address", "-Wall", "-Wextra", "-Werror"],
+    ):
+        made.cc(*flags, "-c", "-DVALUE=1", "main.c", "helper.c")
+        made.link(*flags, "main.o", "helper.o")
+        made.link(*flags, "-DVALUE=1", "main.c", "helper.c")
+        needed = run(["ldd", "./program"], folder).stdout
+        expect([it for it in (b"libasan", b"liblsan", b"libclang_rt.asan") if it in needed], [], f"{flags}")
+    for flags in (["@flags"], ["-fsanitize=address,undefined"]):
+        made.cc(*flags, "-S", "wide.c")
+        expect("__ubsan_handle_shift_out_of_bounds" in made.text_of("wide.s"), True, f"{flags}")
+    refused = "-fno-sanitize=address: what is compiled with this is not recorded"
+    made.cc("-fsanitize=address", "-fno-sanitize=address", "-DVALUE=1", "-c", "helper.c", warning=refused)
+
+
 # What a compiler's program has among its texts.
 TEXTS = {"gcc": "%{!fsyntax-only", "clang": "libclang-cpp.so"}
 
@@ -481,6 +503,7 @@ def tests(suite, compiler):
     else:
         print("left out: ccache is not there")
     suite.test(f"{compiler} builds: kinds", check_kinds, compiler)
+    suite.test(f"{compiler} builds: own flag", check_own_flag, compiler)
     suite.test(f"{compiler} builds: not asked", check_not_asked, compiler)
     suite.test(f"{compiler} builds: names", check_names, compiler)
     suite.test(f"{compiler} builds: own wrap", check_own_wrap, compiler)

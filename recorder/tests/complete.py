@@ -181,9 +181,9 @@ def check_refusals(suite: Suite, folder: str, compiler: Compiler) -> None:
         expect_warnings(warned(folder, compiler, "-c", "main.c"))
         expect_warnings(warned(folder, compiler, "main.o", "helper.o", "-o", "program"))
         expect_noted(folder, "helper.o")
-    for flag in ("-fsanitize=thread", "-fsanitize=address", "-m32"):
+    for flag in ("-fsanitize=thread", "-m32"):
         expect_warnings(warned(folder, compiler, flag, "-DVALUE=1", "-S", "helper.c", "-o", "helper.s"), flag)
-        expect("__asan_report_" in open(f"{folder}/helper.s").read(), flag == "-fsanitize=address", flag)
+        expect("__asan_report_" in open(f"{folder}/helper.s").read(), False, flag)
 
 
 def check_plain_objects(suite: Suite, folder: str, compiler: Compiler) -> None:

@@ -140,15 +140,13 @@ def check_wrong_words(suite: Suite, folder: str, compiler: Compiler) -> None:
     for argv, why in {
         (OPTION + "maybe",): f"{OPTION}maybe: it takes never, runtime or always",
         (OPTION,): f"{OPTION}: it takes never, runtime or always",
+        ("-fsanitize=address", OPTION + "maybe"): f"{OPTION}maybe: it takes never, runtime or always",
         ("@a.rsp",): f"{OPTION}maybe: it takes never, runtime or always",
         ("--param", "asan-use-after-return=2"): "asan-use-after-return=2: it takes 0 or 1",
         ("--param=asan-use-after-return=yes",): "asan-use-after-return=yes: it takes 0 or 1",
     }.items():
         made = run([CC, *argv, "-c", "bug.c"], folder, ASANCOL_CC=compiler.name)
         expect((made.returncode, made.stderr.decode()), (1, f"asancol-cc: error: {why}\n"), f"{argv}")
-    if compiler.has_sanitizer and compiler.name == "clang":
-        made = run([CC, "-w", "-fsanitize=address", OPTION + "maybe", "-c", "bug.c"], folder, ASANCOL_CC=compiler.name)
-        expect(b"unsupported argument 'maybe'" in made.stderr, True, "it is Clang's own word with another sanitizer")
 
 
 def check_setting(suite: Suite, folder: str, compiler: Compiler) -> None:

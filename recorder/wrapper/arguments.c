@@ -164,26 +164,39 @@ static void take_language(struct arguments *arguments, const char *name)
     arguments->request->stops_early |= arguments->language.input == INPUT_HEADER;
 }
 
-/* Whether one of the sanitizers that an option lists has one of these words in its name. */
+/* Whether an option lists one of these sanitizers. */
 static bool lists(const char *list, const char *const *names, size_t count)
 {
-    for (size_t i = 0; i < count; i++)
-        if (strstr(list, names[i]) != NULL)
-            return true;
+    for (const char *at = list; at != NULL; at = strchr(at, ',')) {
+        at += *at == ',';
+        for (size_t i = 0; i < count; i++)
+            if (begins_with(at, names[i]) && strchr(",", at[strlen(names[i])]) != NULL)
+                return true;
+    }
     return false;
 }
 
+/* The first two are what the wrapper does, and asancol-run. */
 static void take_sanitizers(struct arguments *arguments, const char *list)
 {
-    static const char *const others[] = {"address", "thread", "memory", "leak", "safe-stack", "scudo", "dataflow"};
+    static const char *const address = "address", *const leak = "leak";
+    static const char *const others[] = {
+        "thread",           "memory",     "hwaddress", "kernel-address", "kernel-memory",
+        "kernel-hwaddress", "safe-stack", "scudo",     "dataflow",       "memtag"};
+    struct request *request = arguments->request;
     if (lists(list, others, COUNT(others)))
-        arguments->request->foreign = joined(SANITIZE, list);
-    arguments->request->link.needs_every_call = true;
+        request->foreign = joined(SANITIZE, list);
+    if (lists(list, &address, 1)) {
+        request->asks_for_address = true;
+        request->refusal = NULL;
+    }
+    request->asks_for_leak |= lists(list, &leak, 1);
+    request->link.needs_every_call = true;
 }
 
 static void take_refused_sanitizers(struct arguments *arguments, const char *list)
 {
-    static const char *const ours[] = {"all", "address"};
+    static const char *const ours[] = {"all", "address", "kernel-address"};
     if (lists(list, ours, COUNT(ours)))
         arguments->request->refusal = joined("-fno-sanitize=", list);
 }

@@ -44,8 +44,9 @@
 /* Of a comparison of constant size GCC makes loads once its checks are there. Its plugin sees those of headers, too. */
 #define GCC_CALLS FLAGS("-fno-builtin-memcmp", "-fno-builtin-bcmp")
 
-/* Without this GCC ends the process after a bad access if the caller has -fno-sanitize-recover=all. */
-#define GCC_LAST FLAGS("-fsanitize-recover=kernel-address")
+/* Without these GCC ends the process after a bad access if the caller has -fno-sanitize-recover=all, and has no checks
+   after -fno-sanitize=address. */
+#define GCC_LAST FLAGS(COMPILED_SO, "-fsanitize-recover=kernel-address")
 
 /* Clang's driver gives it for AddressSanitizer: else an access past what `new` has returned may be optimised away. */
 #define CLANG_LAST FLAGS("-fno-assume-sane-operator-new")

@@ -150,10 +150,20 @@ void compiling_add_before(struct strings *line, const struct job *job)
     add_headers(line, job);
 }
 
+/* The compiler is to leave what the caller has asked for and the wrapper does. */
+static void add_own(struct strings *line, const struct request *request)
+{
+    if (request->asks_for_leak)
+        strings_add(line, "-fno-sanitize=leak");
+    if (request->asks_for_address)
+        strings_add(line, "-fno-sanitize=address");
+}
+
 void compiling_add_after(struct strings *line, const struct job *job)
 {
     const struct compiler *compiler = job->compiler;
     const struct request *request = &job->request;
+    add_own(line, request);
     if (compiler == NULL || request->refusal != NULL)
         return;
     if (request->inputs.has_compiled || compiles_at_link(job))

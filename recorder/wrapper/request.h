@@ -51,11 +51,12 @@ struct request {
     bool is_all;         /* each access is a call, and not only one that its check finds bad */
     bool is_libcxx;      /* the library of C++ is that of LLVM */
     bool is_without_cxx; /* it is not looked for at its place: the caller says where it is */
+    bool asks_for_address, asks_for_leak; /* by -fsanitize=, which is what the wrapper does */
     char *foreign;       /* a word for another sanitizer, which brings its own runtime, or another machine; or null */
     struct names kept;   /* arguments that Clang's driver passes on if it knows of a sanitizer */
     bool says_use_after_return; /* in a word of its own */
     enum use_after_return use_after_return;
-    char *refusal;       /* a word by which the compiler puts no calls before accesses, or null */
+    char *refusal; /* the last word by which the compiler puts no calls before accesses, or null */
     struct left_out left_out;
 };
 
