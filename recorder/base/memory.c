@@ -3,6 +3,7 @@
 
 #include <errno.h>
 #include <string.h>
+#include <sys/mman.h>
 
 #include "common/format.h"
 #include "base/platform.h"
@@ -12,7 +13,20 @@
 bool memory_read(uint64_t from, void *to, size_t size)
 {
     struct iovec here = {to, size}, there = {(void *)(uintptr_t)from, size};
-    return system_process_vm_readv(system_getpid(), &here, &there) == (ssize_t)size;
+    return system_process_vm_readv(system_getpid(), &here, &there, 1) == (ssize_t)size;
+}
+
+size_t memory_read_each(const uint64_t *from, unsigned char *const *to, size_t count, size_t size)
+{
+    enum { MOST = 16 };
+    struct iovec here[MOST], there[MOST];
+    count = count < MOST ? count : MOST;
+    for (size_t i = 0; i < count; i++) {
+        here[i] = (struct iovec){to[i], size};
+        there[i] = (struct iovec){(void *)(uintptr_t)from[i], size};
+    }
+    ssize_t done = system_process_vm_readv(system_getpid(), here, there, count);
+    return done > 0 ? (size_t)done / size : 0;
 }
 
 bool memory_read_text(uint64_t from, char *to, size_t room)
@@ -59,4 +73,15 @@ bool memory_is_there(struct known_page *known, uintptr_t address, size_t size)
         known->start = page;
     }
     return true;
+}
+
+#ifndef MADV_POPULATE_READ
+#define MADV_POPULATE_READ 22
+#endif
+
+bool memory_is_all_there(uintptr_t start, uintptr_t end)
+{
+    uintptr_t first = start / PAGE * PAGE, last = (end + PAGE - 1) / PAGE * PAGE;
+    return start >= PAGE && start < end && end <= ADDRESS_END
+           && system_madvise((const void *)first, last - first, MADV_POPULATE_READ) == 0;
 }

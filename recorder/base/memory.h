@@ -10,6 +10,9 @@
 
 /* False: not all of it is there. */
 bool memory_read(uint64_t from, void *to, size_t size) OWN_NAME(memory_read);
+/* Reads as much from each of these addresses, by one call of the system. Answers how many it has read before one that is
+   not there. */
+size_t memory_read_each(const uint64_t *from, unsigned char *const *to, size_t count, size_t size);
 /* Reads a text up to its zero, or as much of it as there is room for. False: it is not there. */
 bool memory_read_text(uint64_t from, char *to, size_t room) OWN_NAME(memory_read_text);
 
@@ -21,5 +24,7 @@ struct known_page {
 /* Whether so many bytes can be read: the system is asked once for each page. Nothing is in page 0, and nothing beyond
    the end of addresses. No more than what the system says now, so not for memory that another thread gives back. */
 bool memory_is_there(struct known_page *known, uintptr_t address, size_t size);
+/* Likewise for pages from this address to that, by one call. False: the system does not say so. */
+bool memory_is_all_there(uintptr_t start, uintptr_t end);
 
 #endif

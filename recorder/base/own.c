@@ -160,13 +160,15 @@ size_t strlen(const char *text)
 
 char *strchr(const char *text, int letter)
 {
-    for (;; text++) {
-        if (*text == (char)letter)
-            return (char *)text;
-        if (*text == 0)
-            return NULL;
-        STEP_BY_STEP;
+    __m128i letters = _mm_set1_epi8((char)letter), none = _mm_setzero_si128();
+    uintptr_t start = (uintptr_t)text, at = start / BLOCK * BLOCK;
+    unsigned found = (matches(at, letters) | matches(at, none)) >> (start - at) << (start - at);
+    while (found == 0) {
+        at += BLOCK;
+        found = matches(at, letters) | matches(at, none);
     }
+    at += (unsigned)__builtin_ctz(found);
+    return *(const char *)at == (char)letter ? (char *)at : NULL;
 }
 
 char *strrchr(const char *text, int letter)

@@ -221,9 +221,10 @@ SYSTEM_CALL int system_munlock(const volatile void *address, size_t size)
     return (int)system_call3(SYS_munlock, (long)address, (long)size, 0);
 }
 
-SYSTEM_CALL ssize_t system_process_vm_readv(pid_t process, const struct iovec *here, const struct iovec *there)
+SYSTEM_CALL ssize_t system_process_vm_readv(pid_t process, const struct iovec *here, const struct iovec *there,
+                                            size_t count)
 {
-    return system_call6(SYS_process_vm_readv, process, (long)here, 1, (long)there, 1, 0);
+    return system_call6(SYS_process_vm_readv, process, (long)here, (long)count, (long)there, (long)count, 0);
 }
 
 SYSTEM_CALL ssize_t system_process_vm_writev(pid_t process, const struct iovec *here, const struct iovec *there)

@@ -133,6 +133,10 @@ struct leaving {
 
 static struct leaving leave(const struct target *target)
 {
+    if (HAS_HOOK(leave)) {
+        unsigned left = asancol_hooks.leave(target);
+        return (struct leaving){(left & LEFT_RECORDING) != 0, (left & LEFT_WORD) != 0};
+    }
     struct leaving leaving = {.is_expected = HAS_HOOK(becoming) && asancol_hooks.becoming(target)};
     leaving.is_recorded = HAS_HOOKS && asancol_hooks.before_exec();
     return leaving;

@@ -49,6 +49,11 @@ void library_leave_unchecked(void)
 {
 }
 
+uint64_t library_generation(void)
+{
+    return 1;
+}
+
 #else
 
 #include <string.h>
@@ -262,6 +267,20 @@ static int look_for_library(struct dl_phdr_info *module, size_t size, void *func
 bool library_has(const void *function)
 {
     return library.dl_iterate_phdr(look_for_library, (void *)(uintptr_t)function) == 1;
+}
+
+static int count_modules(struct dl_phdr_info *module, size_t size, void *generation)
+{
+    (void)size;
+    *(uint64_t *)generation = (uint64_t)module->dlpi_adds << 32 | (uint32_t)module->dlpi_subs;
+    return 1;
+}
+
+uint64_t library_generation(void)
+{
+    uint64_t generation = 0;
+    library.dl_iterate_phdr(count_modules, &generation);
+    return generation;
 }
 
 /* Some functions of time are those that the system maps into the process. */

@@ -85,6 +85,9 @@ void *library_first(const char *name);
 bool library_has(const void *function);
 /* After a library was opened: the mathematics may have come with it. */
 void library_look_again(void);
+/* Another number once an object was loaded or unloaded, as the loader counts them. It takes the loader's lock for a
+   moment. */
+uint64_t library_generation(void);
 /* From now on no call is checked. */
 void library_leave_unchecked(void);
 

@@ -99,4 +99,5 @@ const struct recorder_hooks asancol_hooks = {
     .instead_of = plain_instead_of,
 #endif
     .skipped = side_note_skipped,
+    .leave = becoming_leave,
 };

@@ -83,6 +83,7 @@ struct recorder_hooks {
     void (*child_killed)(int child, int number);
     void (*skipped)(uint64_t what);
     void (*child_forked)(int child);
+    unsigned (*leave)(const struct target *target);
 };
 
 /* What is found of the C library (calls/library.h): there if anything is checked. */

@@ -99,8 +99,8 @@ static void scan(uintptr_t start, uintptr_t end, enum mark mark, const struct bl
     }
 }
 
-/* Goes through memory of which a part may be gone, page by page. */
-static void scan_pages(uintptr_t start, uintptr_t end, enum mark mark, const struct block *from, bool stops_at_gap)
+/* Goes through memory of which a part may be gone, page by page. False: it has stopped at a gap. */
+static bool scan_pages(uintptr_t start, uintptr_t end, enum mark mark, const struct block *from, bool stops_at_gap)
 {
     for (uintptr_t at = start, next; at < end; at = next) {
         struct known_page known = {0};
@@ -108,6 +108,21 @@ static void scan_pages(uintptr_t start, uintptr_t end, enum mark mark, const str
         if (memory_is_there(&known, at / PAGE * PAGE, sizeof at))
             scan(at, next < end ? next : end, mark, from);
         else if (stops_at_gap)
+            return false;
+    }
+    return true;
+}
+
+/* Likewise, and many pages at once where all of them are there. */
+static void scan_parts(uintptr_t start, uintptr_t end, enum mark mark, const struct block *from, bool stops_at_gap)
+{
+    enum { PART = 1 << 21 };
+    for (uintptr_t at = start, next; at < end; at = next) {
+        next = at / PART * PART + PART < end ? at / PART * PART + PART : end;
+        bool has_pages = next - at / PAGE * PAGE > PAGE;
+        if (has_pages && memory_is_all_there(at, next))
+            scan(at, next, mark, from);
+        else if (!scan_pages(at, next, mark, from, stops_at_gap))
             return;
     }
 }
@@ -119,7 +134,7 @@ static void scan_block(const struct block *block, enum mark mark)
     if (size_of(block) < PAGE && start % PAGE != 0)
         scan(start, end, mark, block);
     else
-        scan_pages(start, end, mark, block, false);
+        scan_parts(start, end, mark, block, false);
 }
 
 void mark_word(uintptr_t word)
@@ -131,12 +146,12 @@ void mark_word(uintptr_t word)
 
 void mark_range(uintptr_t start, uintptr_t end)
 {
-    scan_pages(start, end, MARK_REACHABLE, NULL, false);
+    scan_parts(start, end, MARK_REACHABLE, NULL, false);
 }
 
 void mark_up_to_gap(uintptr_t start, uintptr_t end)
 {
-    scan_pages(start, end, MARK_REACHABLE, NULL, true);
+    scan_parts(start, end, MARK_REACHABLE, NULL, true);
 }
 
 void mark_reachable(void)

@@ -204,7 +204,6 @@ static bool find_slots(void)
             return false;
         atomic_store(&world.slots, (struct slot *)made);
     }
-    world.count = world.first;
     return true;
 }
 
@@ -228,11 +227,14 @@ const char *world_stop(void)
 {
     struct system_action old;
     world.has_failed = false;
-    if (!find_slots())
-        return "there is no memory for it";
+    world.count = world.first;
     atomic_fetch_add(&world.round, 1);
     if (!has_other_threads())
         return NULL;
+    if (!find_slots()) {
+        world_go_on();
+        return "there is no memory for it";
+    }
     const char *why = take_signal(&old) ? stop_all() : "the system takes no handler of the signal that stops threads";
     if (why == NULL) {
         give_signal_back(&old);
@@ -246,7 +248,8 @@ const char *world_stop(void)
 void world_go_on(void)
 {
     atomic_fetch_add(&world.round, 1);
-    system_futex(&world.round, FUTEX_WAKE_PRIVATE, INT32_MAX);
+    if (world.count != world.first) /* that many were asked to stop */
+        system_futex(&world.round, FUTEX_WAKE_PRIVATE, INT32_MAX);
 }
 
 void world_visit(void (*visit)(const struct stopped_thread *thread))

@@ -16,6 +16,7 @@
 #include "process/hub_names.h"
 #include "process/process.h"
 #include "stream/side.h"
+#include "stream/state.h"
 #include "base/system.h"
 #include "process/unseen.h"
 
@@ -32,9 +33,16 @@ static const char *value_in(char *const *environment, const char *front)
     return NULL;
 }
 
-/* The file in the folders of PATH that can be executed. False: none can. */
-static bool look_for(const char *name, char *path)
+/* The system finds no such file, whoever asks it. */
+static bool is_nowhere(int failed)
 {
+    return failed == -ENOENT || failed == -ENOTDIR;
+}
+
+/* The file in the folders of PATH that can be executed. False: none can; and whether one may be there. */
+static bool look_for(const char *name, char *path, bool *may_be)
+{
+    *may_be = false;
     const char *at = value_in(library.environment != NULL ? *library.environment : NULL, "PATH=");
     for (at = at != NULL ? at : "/bin:/usr/bin"; *name != 0; at++) {
         struct joined joined = {.text = path, .room = PATH_MAX};
@@ -42,8 +50,10 @@ static bool look_for(const char *name, char *path)
         joined_add(&joined, at, length);
         joined_add(&joined, length > 0 ? "/" : "", 1);
         joined_add(&joined, name, PATH_MAX);
-        if (!joined.is_cut && system_access(path, X_OK) == 0)
+        int failed = joined.is_cut ? -ENAMETOOLONG : system_access(path, X_OK);
+        if (failed == 0)
             return true;
+        *may_be = *may_be || !is_nowhere(failed);
         at += length;
         if (*at == 0)
             break;
@@ -51,12 +61,13 @@ static bool look_for(const char *name, char *path)
     return false;
 }
 
-/* Puts the path of the file into the room, which has PATH_MAX bytes, or answers it as it was given. Null: there is
-   none. */
-static const char *path_of(const struct target *target, char *room)
+/* Puts the path of the file into the room, which has PATH_MAX bytes, or answers it as it was given. Null: none is found,
+   and then it is said whether it may be there. */
+static const char *path_of(const struct target *target, char *room, bool *may_be)
 {
     static const char front[] = "/proc/self/fd/";
     char digits[DIGITS_ROOM];
+    *may_be = true;
     if (target->name == NULL) {
         struct joined joined = {.text = room, .room = PATH_MAX};
         joined_add(&joined, front, sizeof front);
@@ -65,8 +76,10 @@ static const char *path_of(const struct target *target, char *room)
     }
     if (!given_text_is_there(target->name))
         return NULL;
-    bool is_looked_for = target->is_looked_for && strchr(target->name, '/') == NULL;
-    return !is_looked_for ? target->name : look_for(target->name, room) ? room : NULL;
+    if (target->is_looked_for && strchr(target->name, '/') == NULL)
+        return look_for(target->name, room, may_be) ? room : NULL;
+    *may_be = !is_nowhere(system_access(target->name, F_OK));
+    return *may_be ? target->name : NULL;
 }
 
 /* Why the program may never connect. */
@@ -85,19 +98,18 @@ static const char *why_unseen(const struct target *target, const char *path)
 }
 
 /* The file if it was built so, or null: with why it may never connect. */
-static const char *expected_in(const struct target *target, char *room, const char **why)
+static const char *expected_in(const struct target *target, const char *path, const char **why)
 {
-    const char *path = recorder_hub() != NULL ? path_of(target, room) : NULL;
     enum built built = path != NULL ? built_by(path) : BUILT_BY_OTHERS;
     *why = built == BUILT_BY_US ? why_unseen(target, path)
                                 : "nothing came of it, and no descriptor was left to see if asancol-cc built it";
     return built != BUILT_BY_OTHERS ? path : NULL;
 }
 
-static bool note_exec(const struct target *target)
+static bool note_exec(const struct target *target, const char *found)
 {
-    char room[PATH_MAX], shown[SHOWN_ROOM];
-    const char *why, *path = expected_in(target, room, &why);
+    char shown[SHOWN_ROOM];
+    const char *why, *path = expected_in(target, found, &why);
     if (path == NULL)
         return false;
     long length = target->name == NULL ? system_readlink(path, shown, sizeof shown - 1) : 0;
@@ -110,10 +122,29 @@ static bool note_exec(const struct target *target)
 
 bool becoming_note(const struct target *target)
 {
+    char room[PATH_MAX];
+    bool may_be;
     _Atomic uint64_t *calls = side_begin_calls(true);
-    bool is_noted = note_exec(target);
+    bool is_noted = recorder_hub() != NULL && note_exec(target, path_of(target, room, &may_be));
     side_end_calls(calls);
     return is_noted;
+}
+
+/* Without a hub nobody needs the path: then it costs less to leave in vain than to look for a file. */
+unsigned becoming_leave(const struct target *target)
+{
+    char room[PATH_MAX];
+    const char *path = NULL;
+    bool may_be = true, is_noted = false, is_left = false, has_hub = recorder_hub() != NULL;
+    _Atomic uint64_t *calls = side_begin_calls(true);
+    if (has_hub || (!target->is_looked_for && stream_state() != STATE_OFF))
+        path = path_of(target, room, &may_be);
+    if (path != NULL || may_be) {
+        is_noted = has_hub && note_exec(target, path);
+        is_left = recorder_before_exec();
+    }
+    side_end_calls(calls);
+    return (is_left ? LEFT_RECORDING : 0) | (is_noted ? LEFT_WORD : 0);
 }
 
 void becoming_take_back(void)
@@ -126,8 +157,10 @@ void becoming_take_back(void)
 bool becoming_note_child(const struct target *target)
 {
     char room[PATH_MAX];
+    bool may_be;
     _Atomic uint64_t *calls = side_begin_calls(true);
-    const char *why, *path = expected_in(target, room, &why);
+    const char *why, *found = recorder_hub() != NULL ? path_of(target, room, &may_be) : NULL;
+    const char *path = expected_in(target, found, &why);
     bool is_noted = path != NULL && unseen_expect_child(recorder_hub(), target->name, why);
     side_end_calls(calls);
     return is_noted;

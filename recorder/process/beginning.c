@@ -35,6 +35,9 @@ void beginning_note(char **argv, char **variables)
         return;
     beginning.is_set_user = beginning_is_set_user(variables);
     beginning.system_code = number_behind(variables, AT_SYSINFO_EHDR, 0);
+    uintptr_t last = number_behind(variables, AT_EXECFN, 0); /* it lies above all other texts */
+    beginning.words = argv[0];
+    beginning.end = last > (uintptr_t)argv ? last / PAGE * PAGE + PAGE : 0;
     beginning.variables = variables;
 #else
     (void)variables; /* where the object is opened later, they may be others */

@@ -2,6 +2,7 @@
 
 #include "base/memory.h"
 #include "base/platform.h"
+#include "process/beginning.h"
 #include "shadow/mapping.h"
 #include "shadow/shadow.h"
 #include "stacks/own_stack.h"
@@ -12,12 +13,18 @@ static bool is_above_us(uintptr_t start, size_t size)
     return start >= here && start < end && size <= end - start;
 }
 
+/* Among the arguments and variables that the process was started with. */
+static bool is_at_beginning(uintptr_t start, size_t size)
+{
+    return start >= (uintptr_t)beginning.argv && start < beginning.end && size <= beginning.end - start;
+}
+
 bool given_is_there(uintptr_t start, size_t size)
 {
     struct known_page page = {0};
     if (is_in_maps(start)) /* nobody knows the shadow of that */
         return false;
-    if (is_above_us(start, size) || is_in_own_file(start, size))
+    if (is_above_us(start, size) || is_at_beginning(start, size) || is_in_own_file(start, size))
         return true;
     return (is_in_arena(start) && shadow_is_clean(start, size)) || memory_is_there(&page, start, size);
 }

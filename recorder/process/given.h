@@ -9,8 +9,8 @@
 
 #include "base/platform.h"
 
-/* Whether so many bytes can be read. The system is asked unless they are in the program's file, in a live block, or
-   above us on the thread's own stack. */
+/* Whether so many bytes can be read. The system is asked unless they are in the program's file, in a live block,
+   above us on the thread's own stack, or what the process was started with. */
 bool given_is_there(uintptr_t start, size_t size);
 /* Whether a text can, up to its end. */
 bool given_text_is_there(const char *text);

@@ -109,6 +109,12 @@ enum { HELD_BY_CHILD = 4096 };
 /* Something records each access, and not the bad ones alone: so mallocs and frees are recorded too. */
 static _Atomic bool is_to_be_full;
 
+/* Whether this segment has any. */
+static bool has_events(void)
+{
+    return atomic_load(&STREAM->cursor) >= (CURSOR_ON | CURSOR_EVENT);
+}
+
 static bool begin(uint64_t most_held)
 {
     process.settings.is_full |= atomic_load(&is_to_be_full);
@@ -121,7 +127,8 @@ static bool begin(uint64_t most_held)
     heap_release_down_to_bound();
     heap_snapshot(most_held, stream_snapshot_room());
     /* What comes next may be an exec, after all descriptors were closed. */
-    stream_look_at_clock(true);
+    if (has_events())
+        stream_look_at_clock(true);
     return true;
 }
 
@@ -217,8 +224,7 @@ bool recorder_end_waiting(void)
 /* Records what stands: in this segment, if that has nothing yet and its checker holds no more; else in the next one. */
 static bool begin_full(void)
 {
-    bool has_events = atomic_load(&STREAM->cursor) >= (CURSOR_ON | CURSOR_EVENT);
-    if (has_events || process.settings.quarantine < QUARANTINE_BOUND)
+    if (has_events() || process.settings.quarantine < QUARANTINE_BOUND)
         return switching_begin_anew();
     heap_snapshot(UINT64_MAX, stream_snapshot_room());
     return true;
@@ -334,9 +340,13 @@ static bool forks_recorded(void)
 /* The handlers of a fork are not given its result: but if it fails it sets errno, and nothing comes between. */
 static void before_fork(void)
 {
+    /* Its lock is taken by who has none of ours. */
+    uint64_t generation = library_generation();
     process.forked_inside = heap_is_entered();
     heap_lock();
     stream_lock();
+    if (forks_recorded())
+        side_look_at_generation(generation);
     process.error_before_fork = errno;
     errno = 0;
 }

@@ -12,6 +12,7 @@
 #include "base/own_code.h"
 #include "base/self.h"
 #include "base/system.h"
+#include "calls/library.h"
 #include "calls/stubs.h"
 #include "process/process.h"
 #include "process/signal_stack.h"
@@ -276,21 +277,35 @@ static bool is_function(uintptr_t handler)
     return handler != (uintptr_t)SIG_DFL && handler != (uintptr_t)SIG_IGN;
 }
 
-void signals_handle(void)
+/* Handles a signal whose action is the default. At once: it is taken back where the program has another one. No signal
+   may come in between, so this is for a process with one thread, in which all are blocked; and the system drops what
+   waits once it is to be ignored again. */
+static void handle_default(int number, uint64_t mask, bool at_once)
 {
     struct system_action seen;
-    uint64_t set = 0;
+    int failed = at_once ? action_handle(number, on_ending, mask, &seen) : action_set(number, NULL, &seen);
+    if (failed != 0)
+        return;
+    if (!at_once && seen.handler == NULL)
+        action_handle(number, on_ending, mask, NULL);
+    if (at_once && seen.handler != NULL)
+        action_set(number, &seen, NULL);
+    if (place_of(number) < FAULTS && is_function((uintptr_t)seen.handler))
+        stand_before(number, seen);
+}
+
+void signals_handle(void)
+{
+    uint64_t set = 0, all = ~(uint64_t)0, before;
+    bool at_once = library_is_alone() && system_sigprocmask(SIG_SETMASK, &all, &before) == 0;
     signal_stack_of_first();
     for (unsigned i = 0; i < FAULTS; i++)
         set |= signal_bit(faults[i]);
-    for (int number = 1; number <= LAST_SIGNAL; number++) {
-        if (!ends_process(number) || action_set(number, NULL, &seen) != 0)
-            continue;
-        if (seen.handler == NULL)
-            action_handle(number, on_ending, ~set, NULL);
-        else if (place_of(number) < FAULTS && is_function((uintptr_t)seen.handler))
-            stand_before(number, seen);
-    }
+    for (int number = 1; number <= LAST_SIGNAL; number++)
+        if (ends_process(number))
+            handle_default(number, ~set, at_once);
+    if (at_once)
+        system_sigprocmask(SIG_SETMASK, &before, NULL);
     undisturbed_by_faults(set);
     has_handlers = true;
 }

@@ -136,6 +136,7 @@ const struct above above = {
     .start = start_if_ready,
     .say_child = recorder_say_child,
     .list_unchecked = unchecked_list,
+    .unchecked_state = unchecked_state,
     .has_frame = stack_has_frame,
     .is_own_frame = stack_is_own_frame,
     .halt_at = halt_at,

@@ -17,6 +17,7 @@
 #include "process/process.h"
 #include "base/memory.h"
 #include "stream/maps.h"
+#include "stream/modules.h"
 
 extern const struct link_note asancol_link_note;
 
@@ -120,6 +121,7 @@ static void take_away(struct list *list, const char *front, const char *text, si
 static struct list begin(char *lines)
 {
     struct list list = {lines, 0, 0};
+    size_t before = strlen(lines);
     for (const char *at = lines, *next; *at != 0; at = next) {
         next = strchr(at, '\n') + 1;
         if (*at == '+')
@@ -127,7 +129,7 @@ static struct list begin(char *lines)
         memmove(lines + list.length, at, (size_t)(next - at));
         list.length += (size_t)(next - at);
     }
-    memset(lines + list.length, 0, SIDE_UNCHECKED_ROOM - list.length);
+    memset(lines + list.length, 0, before - list.length);
     return list;
 }
 
@@ -226,14 +228,18 @@ static bool has_address(const struct map_line *line, const void *address)
 static void add_module(struct list *list, const struct map_line *first)
 {
     static char text[LINK_NOTE_ROOM + 1]; /* the lock is held */
-    struct note note = {0};
+    struct module module;
     struct name name = name_of(first);
-    bool is_own = has_address(first, &asancol_link_note);
-    if (is_own)
-        note = (struct note){(uintptr_t)asancol_link_note.text, LINK_NOTE_ROOM};
-    bool has_note = is_own || maps_find_note(first->start, LINK_NOTE_OWNER, LINK_NOTE_TYPE, &note);
+    if (has_address(first, &asancol_link_note)) {
+        memcpy(text, asancol_link_note.text, LINK_NOTE_ROOM);
+        text[LINK_NOTE_ROOM] = 0;
+        add_noted(list, text, name);
+        return;
+    }
+    module_at(&module, first->start);
     memset(text, 0, sizeof text);
-    if (has_note && note.size <= LINK_NOTE_ROOM && memory_read(note.start, text, note.size))
+    if (module.link.size != 0 && module.link.size <= LINK_NOTE_ROOM
+        && memory_read(module.link.start, text, module.link.size))
         add_noted(list, text, name);
     else
         add_plain(list, first, name);
@@ -256,6 +262,14 @@ static void look_for_second(struct list *list, const struct map_line *first, uns
     struct name name = name_of(first);
     if (begins_with(name.text, "libc.so.") && ++*count > 1)
         add(list, MALLOC_OF, name.text, name.length);
+}
+
+uint64_t unchecked_state(void)
+{
+    uint64_t count = 0;
+    while (count < APART && atomic_load(&mallocs_apart[count]) != 0)
+        count++;
+    return (atomic_load(&more_apart) + count) << 1 | heap_is_below();
 }
 
 void unchecked_list(char *lines, const char *maps)

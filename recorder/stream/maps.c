@@ -55,16 +55,36 @@ static uint64_t padded(uint64_t size, uint64_t alignment)
     return (size + alignment - 1) / alignment * alignment;
 }
 
+bool maps_is_module(const struct map_line *line)
+{
+    struct map_line next;
+    return line->is_first
+           && (line->is_code
+               || (maps_take_line(line->next, &next) && next.has_file && maps_is_same_file(line, &next)));
+}
+
+bool map_head_read(const struct map_head *head, uint64_t from, void *to, size_t size)
+{
+    uint64_t at = from - head->start;
+    if (!head->is_read || at > MAP_HEAD || size > MAP_HEAD - at)
+        return memory_read(from, to, size);
+    memcpy(to, head->bytes + at, size);
+    return true;
+}
+
 /* Goes over the notes from here on. */
-static bool find_among(uint64_t at, const Elf64_Phdr *segment, const char *owner, uint32_t type, struct note *found)
+static bool find_among(const struct map_head *head, const Elf64_Phdr *segment, const char *owner, uint32_t type,
+                       struct note *found)
 {
     struct {
         Elf64_Nhdr head;
         char owner[MAX_OWNER];
     } note;
-    uint64_t end = at + segment->p_filesz, alignment = segment->p_align == 8 ? 8 : 4;
+    /* What lies in the first segment is as far from its start as in the file. */
+    uint64_t at = head->start + segment->p_offset, end = at + segment->p_filesz;
+    uint64_t alignment = segment->p_align == 8 ? 8 : 4;
     size_t length = strlen(owner) + 1;
-    while (at + sizeof note <= end && memory_read(at, &note, sizeof note)) {
+    while (at + sizeof note <= end && map_head_read(head, at, &note, sizeof note)) {
         uint64_t bytes = at + sizeof note.head + padded(note.head.n_namesz, alignment);
         at = bytes + padded(note.head.n_descsz, alignment);
         if (at > end)
@@ -76,19 +96,24 @@ static bool find_among(uint64_t at, const Elf64_Phdr *segment, const char *owner
     return false;
 }
 
-bool maps_find_note(uint64_t start, const char *owner, uint32_t type, struct note *found)
+bool map_head_find_note(const struct map_head *head, const char *owner, uint32_t type, struct note *found)
 {
-    Elf64_Ehdr head;
+    Elf64_Ehdr file;
     Elf64_Phdr segments[MAX_SEGMENTS];
-    if (!memory_read(start, &head, sizeof head) || memcmp(head.e_ident, ELFMAG, SELFMAG) != 0)
+    if (!map_head_read(head, head->start, &file, sizeof file) || memcmp(file.e_ident, ELFMAG, SELFMAG) != 0)
         return false;
-    unsigned count = head.e_phnum < MAX_SEGMENTS ? head.e_phnum : MAX_SEGMENTS;
-    if (!memory_read(start + head.e_phoff, segments, count * sizeof *segments))
+    unsigned count = file.e_phnum < MAX_SEGMENTS ? file.e_phnum : MAX_SEGMENTS;
+    if (!map_head_read(head, head->start + file.e_phoff, segments, count * sizeof *segments))
         return false;
-    /* What lies in the first segment is as far from its start as in the file. */
     for (unsigned i = 0; i < count; i++)
-        if (segments[i].p_type == PT_NOTE
-            && find_among(start + segments[i].p_offset, &segments[i], owner, type, found))
+        if (segments[i].p_type == PT_NOTE && find_among(head, &segments[i], owner, type, found))
             return true;
     return false;
+}
+
+bool maps_find_note(uint64_t start, const char *owner, uint32_t type, struct note *found)
+{
+    struct map_head head = {.start = start};
+    head.is_read = memory_read(start, head.bytes, sizeof head.bytes);
+    return map_head_find_note(&head, owner, type, found);
 }

@@ -17,6 +17,8 @@ struct map_line {
 
 /* The line that begins here. False: there is no more. */
 bool maps_take_line(const char *text, struct map_line *line);
+/* Whether a file begins here that has code. A file of data is one part, or is no matter. */
+bool maps_is_module(const struct map_line *line);
 /* Whether two lines are of one file: from the device on they have the same text. */
 bool maps_is_same_file(const struct map_line *one, const struct map_line *other);
 
@@ -26,8 +28,20 @@ struct note {
     uint32_t size;
 };
 
-/* Finds a note of the module whose file begins at this address. Another thread may be closing it: so nothing is read
-   directly. */
+/* The first bytes of a module's file, where the headers and notes of most are. */
+enum { MAP_HEAD = 2048 };
+struct map_head {
+    uint64_t start; /* where the file begins */
+    bool is_read;   /* else what is looked for is read by itself */
+    _Alignas(8) unsigned char bytes[MAP_HEAD];
+};
+
+/* Reads a part of the module, from the head if it is there. Another thread may be closing it: so nothing is read
+   directly. False: it is not there. */
+bool map_head_read(const struct map_head *head, uint64_t from, void *to, size_t size);
+/* Finds a note of the module. */
+bool map_head_find_note(const struct map_head *head, const char *owner, uint32_t type, struct note *found);
+/* Likewise of one whose head was not read. */
 bool maps_find_note(uint64_t start, const char *owner, uint32_t type, struct note *found);
 
 #endif

@@ -14,10 +14,13 @@
 #include "base/self.h"
 #include "base/system.h"
 #include "calls/library.h"
+#include "process/aside.h"
 #include "process/beginning.h"
+#include "shadow/mapping.h"
 #include "stacks/thread_notes.h"
 #include "stream/locked.h"
 #include "stream/maps.h"
+#include "stream/modules.h"
 #include "stream/state.h"
 
 static struct side *_Atomic current;
@@ -59,10 +62,20 @@ static size_t read_file(const char *path, char *to, size_t room)
     return length;
 }
 
-/* The arguments of the command line. Each has its zero, also one that was cut, and there is one more. */
+/* The arguments of the command line. Each has its zero, also one that was cut, and there is one more. What was read is
+   kept, also in a child, and read again only if it does not stand any more where the system has put it: a process may
+   write a title of its own there. */
 static void read_argv(struct side *side)
 {
-    if (read_file("/proc/self/cmdline", side->argv, SIDE_ARGV - 2) == 0)
+    static char seen[SIDE_ARGV]; /* the lock is held */
+    static size_t length;
+    uintptr_t words = (uintptr_t)beginning.words;
+    bool is_there = words != 0 && words < beginning.end && length <= beginning.end - words;
+    if (length == 0 || !is_there || memcmp(beginning.words, seen, length) != 0)
+        length = read_file("/proc/self/cmdline", seen, SIDE_ARGV - 2);
+    if (length != 0)
+        memcpy(side->argv, seen, length);
+    else
         strncpy(side->argv, beginning_name(), SIDE_ARGV - 2);
 }
 
@@ -172,7 +185,7 @@ void side_begin(unsigned char *bytes, uint64_t segment, const struct settings *s
                       | (settings->with_leaks ? 0 : SKIPPED_LEAKS));
     put_used_again();
     side_note_first_name();
-    side_write_modules();
+    modules_show(side);
 }
 
 uint64_t side_length(void)
@@ -187,102 +200,18 @@ uint64_t side_length(void)
 
 /* Modules. */
 
-/* Of the module whose file begins at this address. */
-static bool find_build_id(struct side_build *build, uint64_t start)
-{
-    struct note note;
-    if (!maps_find_note(start, "GNU", NT_GNU_BUILD_ID, &note) || note.size > SIDE_ID
-        || !memory_read(note.start, build->id, note.size))
-        return false;
-    build->length = (unsigned char)note.size;
-    return true;
-}
-
-/* Whether the line of a file need not be kept: the file, or code of no file, lies there now. Where data lies, nobody
-   takes an address of code for one of it. If the code of another file does, who reads both lines sees that it is not
-   known which of them an address meant. */
-static bool is_taken(const char *maps, const struct map_line *old)
-{
-    struct map_line line;
-    for (const char *at = maps; maps_take_line(at, &line); at = line.next)
-        if (line.start < old->end && old->start < line.end
-            && (line.has_file ? maps_is_same_file(&line, old) : line.is_code))
-            return true;
-    return false;
-}
-
-/* Of two maps with more bytes than this the lines are not compared. */
-enum { MAX_COMPARED = 1 << 16 };
-
-/* Code, and where its file begins. A file of data is one part, or is no matter. */
-static bool has_names(const struct map_line *line)
-{
-    struct map_line next;
-    return line->is_code
-           || (line->is_first && maps_take_line(line->next, &next) && next.has_file && maps_is_same_file(line, &next));
-}
-
-/* A library that was closed keeps its lines, as long as no other code lies there: its faults are not gone. */
-static size_t keep_closed(char *maps, size_t length, size_t room, const char *before)
-{
-    struct map_line line;
-    size_t now = length;
-    if (now > MAX_COMPARED)
-        return length;
-    for (const char *at = before; maps_take_line(at, &line); at = line.next) {
-        size_t size = (size_t)(line.next - line.text);
-        if (!line.has_file || !has_names(&line) || size >= room - length || is_taken(maps, &line))
-            continue;
-        memcpy(maps + length, line.text, size);
-        length += size;
-        maps[length] = 0;
-    }
-    return length;
-}
-
-/* What was known of a module that is closed. */
-static bool find_before(struct side_build *build, uint64_t start, const struct side_build *before)
-{
-    for (unsigned i = 0; i < SIDE_BUILD_COUNT && before[i].start != 0; i++) {
-        if (before[i].start == start) {
-            *build = before[i];
-            return true;
-        }
-    }
-    return false;
-}
-
-static void write_builds(struct side *side)
-{
-    static struct side_build before[SIDE_BUILD_COUNT]; /* the lock is held */
-    struct side_build *builds = (struct side_build *)((unsigned char *)side + SIDE_BUILDS);
-    const char *at = (const char *)side + SIDE_MAPS;
-    struct map_line line;
-    unsigned count = 0;
-    memcpy(before, builds, sizeof before);
-    for (; count < SIDE_BUILD_COUNT && maps_take_line(at, &line); at = line.next) {
-        struct side_build build = {.start = line.start};
-        if (line.is_first && (find_build_id(&build, line.start) || find_before(&build, line.start, before)))
-            builds[count++] = build;
-    }
-    if (count < SIDE_BUILD_COUNT)
-        memset(&builds[count], 0, (SIDE_BUILD_COUNT - count) * sizeof *builds);
-}
-
 void side_write_modules(void)
 {
-    static char now[SIDE_UNCHECKED - SIDE_MAPS]; /* the lock is held */
     struct side *side = side_now();
-    size_t length = side != NULL ? read_file("/proc/self/maps", now, sizeof now - 1) : 0;
-    if (length == 0)
-        return; /* as after a change of root: what is there stays */
-    now[length] = 0;
-    /* Without the closed ones, whose notes are gone: they were listed when they came. */
-    above.list_unchecked((char *)side + SIDE_UNCHECKED, now);
-    char *maps = (char *)side + SIDE_MAPS;
-    length = keep_closed(now, length, sizeof now, maps);
-    memcpy(maps, now, length + 1);
-    write_builds(side);
+    if (side != NULL)
+        modules_look(side);
+}
+
+void side_look_at_generation(uint64_t generation)
+{
+    struct side *side = side_now();
+    if (side != NULL)
+        modules_look_at_generation(side, generation);
 }
 
 void stream_write_modules(void)
@@ -332,6 +261,12 @@ static bool take_path(char *path, size_t room, const struct map_line *line)
     return true;
 }
 
+/* Whether the line is of the program's file. */
+static bool is_of_program(const struct map_line *line)
+{
+    return !IS_PRELOADED && line->start <= own_code.start && own_code.start < line->end;
+}
+
 static bool is_one_file(int descriptor, int other)
 {
     struct stat seen, of_other;
@@ -350,9 +285,9 @@ unsigned side_open_files(int files[SIDE_FILES])
     int program = system_open("/proc/self/exe", O_RDONLY | O_CLOEXEC, 0);
     if (program >= 0)
         files[count++] = program;
-    const char *at = (const char *)side + SIDE_MAPS;
-    for (; count < SIDE_FILES && maps_take_line(at, &line); at = line.next) {
-        if (!line.is_first || !take_path(path, sizeof path, &line) || is_of_system(path))
+    for (const char *at = modules_map(); count < SIDE_FILES && maps_take_line(at, &line); at = line.next) {
+        if (!maps_is_module(&line) || (program >= 0 && is_of_program(&line))
+            || !take_path(path, sizeof path, &line) || is_of_system(path))
             continue;
         int file = system_open(path, O_RDONLY | O_CLOEXEC | O_NONBLOCK | O_NOCTTY, 0);
         if (file >= 0 && program >= 0 && is_one_file(file, program))

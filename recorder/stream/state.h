@@ -141,6 +141,8 @@ struct above {
     void (*say_child)(void);
     /* Adds to a list what this map of modules has that was not checked. The lock is held. */
     void (*list_unchecked)(char *list, const char *maps);
+    /* What else that list is made of: it is another number if the list may be another one. */
+    uint64_t (*unchecked_state)(void);
     /* Whether an address in a block is in this frame or above it, on the same stack. */
     bool (*has_frame)(uintptr_t frame, uintptr_t address);
     /* Whether it is on the thread's own stack, and on no other that lies in an array there. */

@@ -107,6 +107,7 @@ static enum stating state_free(uint64_t address)
     return STATING_DONE;
 }
 static void list_unchecked(char *list, const char *maps) { list[0] = maps[0] == 0 ? 0 : list[0]; }
+static uint64_t unchecked_state(void) { return 0; }
 const struct above above = {
     .lock_heap = lock_heap,
     .unlock_heap = unlock_heap,
@@ -120,6 +121,7 @@ const struct above above = {
     .start = is_not,
     .say_child = do_nothing,
     .list_unchecked = list_unchecked,
+    .unchecked_state = unchecked_state,
 };
 static int read_clock(int clock, struct timespec *now) { return clock_gettime(clock, now); }
 static const char is_alone = 0;
