@@ -378,8 +378,9 @@ static int look_at(struct dl_phdr_info *info, size_t size, void *of)
         return 0;
     struct module module;
     read_module(&module, info);
-    module.is_plain = is_plain(info);
-    bool is_led = !plain_is_of_library(base_name(info->dlpi_name)) && (module.is_plain || IS_PRELOADED);
+    bool is_of_library = plain_is_of_library(base_name(info->dlpi_name));
+    module.is_plain = !is_of_library && is_plain(info);
+    bool is_led = !is_of_library && (module.is_plain || IS_PRELOADED);
     if (!is_led || lead_module(&module, look->is_start)) {
         keep_known(&module);
         look->has_found = true;

@@ -9,9 +9,9 @@
 #include "shadow/shadow.h"
 
 static struct {
-    unsigned char *marks; /* for each of arena.blocks, as far as units are used */
+    unsigned char *marks; /* for each of arena.blocks, as far as units are used; and behind them: */
     uint32_t *found;      /* blocks that are reachable, and were not looked through yet, by their numbers */
-    size_t found_count, found_room, bytes;
+    size_t found_count, bytes;
 } marking;
 
 static void *take_memory(size_t bytes)
@@ -30,25 +30,19 @@ bool marking_begin(void)
 {
     size_t count = 1;
     heap_for_each(count_in_use, &count);
-    marking.bytes = block_number(arena.top, 1); /* which is greater than all numbers so far */
+    size_t marks = (size_t)block_number(arena.top, 1); /* which is greater than all numbers so far */
+    marks = (marks + sizeof *marking.found - 1) / sizeof *marking.found * sizeof *marking.found;
+    marking.bytes = marks + count * sizeof *marking.found;
     marking.found_count = 0;
-    marking.found_room = count;
     marking.marks = take_memory(marking.bytes);
-    marking.found = take_memory(count * sizeof *marking.found);
-    if (marking.marks != NULL && marking.found != NULL)
-        return true;
-    marking_end();
-    return false;
+    marking.found = (uint32_t *)(void *)(marking.marks + marks);
+    return marking.marks != NULL;
 }
 
 void marking_end(void)
 {
-    if (marking.marks != NULL)
-        system_munmap(marking.marks, marking.bytes);
-    if (marking.found != NULL)
-        system_munmap(marking.found, marking.found_room * sizeof *marking.found);
+    system_munmap(marking.marks, marking.bytes);
     marking.marks = NULL;
-    marking.found = NULL;
 }
 
 enum mark mark_of(const struct block *block)

@@ -132,11 +132,16 @@ static void mark_local(uintptr_t control)
     } now;
     uintptr_t count;
     enum { PAIR = 2 * sizeof count, MOST_PAIRS = 1 << 16 };
+    struct known_page page = {0}; /* no other thread runs that could take one away */
     if (control == 0)
         return;
     mark_range(control - seen.static_size, control + seen.control_size);
-    if (!memory_read(control, &now, sizeof now) || !memory_read(now.vector - PAIR, &count, sizeof count))
+    if (!memory_is_there(&page, control, sizeof now))
         return;
+    memcpy(&now, (const void *)control, sizeof now);
+    if (!memory_is_there(&page, now.vector - PAIR, sizeof count))
+        return;
+    memcpy(&count, (const void *)(now.vector - PAIR), sizeof count);
     mark_range(now.vector, now.vector + (count < MOST_PAIRS ? count : 0) * PAIR + PAIR);
 }
 

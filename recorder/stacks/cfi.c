@@ -8,6 +8,7 @@
 
 #include "calls/library.h"
 #include "base/memory.h"
+#include "shadow/mapping.h"
 
 /* The program's. Some have none. */
 extern int program_main(void) __asm__("main") __attribute__((weak));
@@ -34,11 +35,19 @@ struct reader {
     bool has_failed;
 };
 
+/* The program's own file stays where it is: nobody has to be asked. */
+static bool is_there(struct reader *from, size_t size)
+{
+    uintptr_t page = from->at / PAGE * PAGE;
+    if (page != from->page.start && is_in_own_file(from->at, 1))
+        from->page.start = page;
+    return memory_is_there(&from->page, from->at, size);
+}
+
 static uint64_t take(struct reader *from, size_t size)
 {
     uint64_t number = 0;
-    if (from->has_failed || from->at > from->end || size > from->end - from->at
-        || !memory_is_there(&from->page, from->at, size)) {
+    if (from->has_failed || from->at > from->end || size > from->end - from->at || !is_there(from, size)) {
         from->has_failed = true;
         return 0;
     }

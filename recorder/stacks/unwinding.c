@@ -6,6 +6,7 @@
 
 #include "base/memory.h"
 #include "base/platform.h"
+#include "shadow/mapping.h"
 #include "stacks/cfi.h"
 #include "stacks/own_stack.h"
 
@@ -51,7 +52,7 @@ static bool follows_call(uintptr_t address)
     enum { LONGEST = 7, SHORTEST = 2, RELATIVE = 5, CALL_RELATIVE = 0xe8, GROUP = 0xff, CALL = 2 };
     struct known_page page = {0};
     unsigned char code[LONGEST];
-    if (!memory_is_there(&page, address - LONGEST, LONGEST))
+    if (!is_in_own_file(address - LONGEST, LONGEST) && !memory_is_there(&page, address - LONGEST, LONGEST))
         return false;
     __builtin_memcpy(code, (const void *)(address - LONGEST), LONGEST);
     if (code[LONGEST - RELATIVE] == CALL_RELATIVE)

@@ -176,7 +176,9 @@ void opening_segment(void)
 /* What stands in the first segment of a process. */
 static void begin_process(const struct settings *settings)
 {
-    system_madvise(&stream_page, sizeof stream_page, MADV_WIPEONFORK);
+    static bool is_advised; /* and with it each child */
+    if (!is_advised)
+        is_advised = system_madvise(&stream_page, sizeof stream_page, MADV_WIPEONFORK) == 0;
     locked.said_unseen = false;
     atomic_store(&shared.is_closing, false);
     atomic_store(&shared.is_late, false);

@@ -88,6 +88,12 @@ static long put_memory(struct window window)
     return map(window, MAP_PRIVATE | MAP_ANONYMOUS, -1);
 }
 
+/* Likewise where plain memory lies already: it is given back, unless the process has locked all of its memory. */
+static long empty_memory(struct window window)
+{
+    return system_madvise(window.bytes, window.room, MADV_DONTNEED) == 0 ? 0 : put_memory(window);
+}
+
 static const char *take_pieces(struct output *output, int descriptor, struct window window)
 {
     struct stat seen;
@@ -97,8 +103,9 @@ static const char *take_pieces(struct output *output, int descriptor, struct win
         return reason(result);
     output->device = seen.st_dev;
     output->node = seen.st_ino;
-    if ((result = put_memory(window)) < 0)
+    if ((result = empty_memory(window)) < 0)
         return reason(result);
+    output->is_plain = true;
     output->bytes = window.bytes;
     return NULL;
 }
@@ -127,7 +134,7 @@ static int open_new(struct output *output, const char *path, enum naming naming)
 
 static void clear(struct output *output, uint64_t room)
 {
-    output->is_mapped = output->is_socket = output->is_lost = false;
+    output->is_mapped = output->is_plain = output->is_socket = output->is_lost = false;
     output->descriptor = -1;
     output->backed = output->sent = 0;
     output->room = room;
@@ -422,8 +429,11 @@ bool output_lose(struct output *output, const void *address)
 
 void output_leave(struct output *output)
 {
-    if (output->bytes != NULL)
-        put_memory((struct window){output->bytes, output->room});
+    struct window window = {output->bytes, output->room};
+    if (output->bytes != NULL && output->is_plain)
+        empty_memory(window);
+    else if (output->bytes != NULL)
+        put_memory(window);
     if (output->descriptor >= 0 && is_still(output, output->descriptor))
         system_close(output->descriptor);
     output->bytes = NULL;

@@ -9,6 +9,7 @@
 
 struct output {
     bool is_mapped;
+    bool is_plain; /* its bytes are memory of this process alone */
     bool is_socket;
     int descriptor; /* of a mapped file none is held: the process may close all that it finds */
     dev_t device;   /* what was opened, to know it again */

@@ -106,7 +106,7 @@ static void note_process(struct side *side, uint64_t segment)
             of_parent = process;
             of_parent_started = started;
         }
-        system_clock_gettime(CLOCK_REALTIME, &now);
+        library.clock_gettime(CLOCK_REALTIME, &now);
         process = now_is;
         parent = (uint32_t)system_getppid();
         started = (uint64_t)now.tv_sec * 1000000000 + (uint64_t)now.tv_nsec;
