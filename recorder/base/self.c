@@ -22,6 +22,11 @@ void self_note_process(void)
     atomic_store(&process, system_getpid());
 }
 
+int self_process(void)
+{
+    return atomic_load_explicit(&process, memory_order_relaxed);
+}
+
 bool recorder_has_checks(void)
 {
     return &asancol_checks != NULL || atomic_load(&found_checks);

@@ -8,6 +8,8 @@
 bool recorder_is_own_process(void);
 /* At the start, and in a child after a fork: it is this one. */
 void self_note_process(void);
+/* The number that was noted then. */
+int self_process(void);
 /* Whether the program or a shared object has the calls of a compiler before its accesses. If not, the trace gets no
    close: what the process did was not seen. */
 bool recorder_has_checks(void);

@@ -386,7 +386,7 @@ static void after_fork_in_child(void)
     errno = process.error_before_fork;
     self_note_process();
     heap_is_alone();
-    thread_is_alone();
+    thread_is_alone(self_process());
     walks_are_alone();
     say_again();
     stream_forget();

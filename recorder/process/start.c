@@ -36,11 +36,12 @@ static struct {
    for before that, as LeakSanitizer does. */
 static void end_at_exit(bool is_last)
 {
-    if (recorder_is_own_process())
+    bool is_own = recorder_is_own_process();
+    if (is_own)
         heap_ends_here();
     if (is_last)
         leaks_look_at_end();
-    if (is_last && recorder_is_own_process() && stream_has_one_end())
+    if (is_last && is_own && stream_has_one_end())
         library._IO_flush_all();
     recorder_exit(is_last);
 }

@@ -28,9 +28,8 @@ unsigned thread_create(uint64_t created)
     return before + 1;
 }
 
-static void note_system_number(unsigned number)
+static void note_system_number(unsigned number, pid_t answer)
 {
-    pid_t answer = system_gettid();
     atomic_store(&notes[number].system_number, answer > 0 ? (uint32_t)answer : UINT32_MAX);
 }
 
@@ -43,7 +42,7 @@ static void copy_name(_Atomic uint64_t to[NAME_WORDS], const uint64_t from[NAME_
 void thread_begins(unsigned number)
 {
     if (number != THREAD_UNKNOWN)
-        note_system_number(number);
+        note_system_number(number, system_gettid());
     atomic_store(&own_notes.number, number);
     uint64_t name[NAME_WORDS];
     for (int i = 0; i < NAME_WORDS; i++)
@@ -52,10 +51,10 @@ void thread_begins(unsigned number)
         thread_set_name(number, name);
 }
 
-void thread_is_alone(void)
+void thread_is_alone(int process)
 {
     if (thread_number() != THREAD_UNKNOWN)
-        note_system_number(thread_number());
+        note_system_number(thread_number(), process);
 }
 
 struct thread_note thread_note(unsigned number)

@@ -38,8 +38,8 @@ void thread_is_first(void);
 unsigned thread_create(uint64_t created);
 /* In that thread, before all that the program does there. */
 void thread_begins(unsigned number);
-/* In the child of a fork. */
-void thread_is_alone(void);
+/* In the child of a fork, whose number the thread has now. */
+void thread_is_alone(int process);
 struct thread_note thread_note(unsigned number);
 /* Answers the number of a thread by its pthread_t, or of this one by 0. If it has none yet, it will have the name when
    it has. */

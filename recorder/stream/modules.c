@@ -127,12 +127,22 @@ static size_t read_map(char *to, size_t room)
     return length;
 }
 
-/* The next line of code from here up to the end, if there is one. */
-static bool take_code(const char **at, const char *end, struct map_line *line)
+/* A part of a map that is gone through, and the line of code in front of it. */
+struct rest {
+    const char *line, *at, *end;
+};
+
+/* Goes to the next line of code of a file. False: there is none. Most lines are of other memory, and need not be taken
+   apart: after the first space are the rights. */
+static bool take_code(struct rest *rest)
 {
-    while (*at < end && maps_take_line(*at, line)) {
-        *at = line->next;
-        if (line->has_file && line->is_code)
+    while (rest->at < rest->end) {
+        size_t size = (size_t)(rest->end - rest->at);
+        const char *next = memchr(rest->at, '\n', size), *rights = memchr(rest->at, ' ', size);
+        rest->line = rest->at;
+        rest->at = next != NULL ? next + 1 : rest->end;
+        if (rights != NULL && rest->at - rights > 4 && rights[3] == 'x'
+            && memchr(rights, '/', (size_t)(rest->at - rights)) != NULL)
             return true;
     }
     return false;
@@ -140,14 +150,13 @@ static bool take_code(const char **at, const char *end, struct map_line *line)
 
 static bool has_noted_code(const char *map, size_t length)
 {
-    const char *at = map, *before = noted.map;
-    struct map_line line, old;
+    struct rest now = {.at = map, .end = map + length}, before = {.at = noted.map, .end = noted.map + noted.open};
     for (;;) {
-        bool has_line = take_code(&at, map + length, &line), had_line = take_code(&before, noted.map + noted.open, &old);
+        bool has_line = take_code(&now), had_line = take_code(&before);
         if (!has_line || !had_line)
             return has_line == had_line;
-        size_t size = (size_t)(line.next - line.text);
-        if (size != (size_t)(old.next - old.text) || memcmp(line.text, old.text, size) != 0)
+        size_t size = (size_t)(now.at - now.line);
+        if (size != (size_t)(before.at - before.line) || memcmp(now.line, before.line, size) != 0)
             return false;
     }
 }

@@ -101,7 +101,7 @@ static void note_process(struct side *side, uint64_t segment)
     static uint64_t started, of_parent, of_parent_started;
     struct timespec now;
     if (segment == 0) {
-        uint32_t now_is = (uint32_t)system_getpid();
+        uint32_t now_is = (uint32_t)self_process();
         if (process != now_is) { /* a forked child has these from its parent, or zeros */
             of_parent = process;
             of_parent_started = started;

@@ -232,7 +232,7 @@ static void be_child(void)
 {
     stream_forget();
     stream_unlock();
-    thread_is_alone();
+    thread_is_alone(1);
     expect(stream_begin(&settings), "the beginning of a child");
     unlock_heap();
     for (int step = 0; step < CHILD_STEPS; step++)
