@@ -117,8 +117,8 @@ SHARED = [
                                               "process/hub_names", "shadow/globals", "shadow/shadow",
                                               "stacks/stacks", "stacks/thread_notes", "stacks/walks")),
             *(f"{RECORDER}/stream/{it}.c" for it in (
-                *STREAM, "fault_list", "faults", "findings", "lists", "maps", "record", "side", "stating", "suspending",
-                "thread_list"))], [],
+                *STREAM, "fault_list", "faults", "findings", "lists", "maps", "modules", "record", "side", "stating",
+                "suspending", "thread_list"))], [],
            flags=["-D_GNU_SOURCE=", PATIENT, "-iquote", OURS, "-include", f"{OURS}/races.h"]),
 ]
 

@@ -126,8 +126,8 @@ static bool begin(uint64_t most_held)
     heap_set_bound(process.settings.quarantine);
     heap_release_down_to_bound();
     heap_snapshot(most_held, stream_snapshot_room());
-    /* What comes next may be an exec, after all descriptors were closed. */
-    if (has_events())
+    /* What comes next may be an exec, after all descriptors were closed. A hub has the header already. */
+    if (process.settings.hub == NULL || has_events())
         stream_look_at_clock(true);
     return true;
 }

@@ -37,14 +37,14 @@ class Most(NamedTuple):
     exec: int
 
 
-# By how it is recorded. Some 53 of each start are the handlers of signals.
+# By how it is recorded. Of each start that is recorded 55 are for the handlers of signals, one by one.
 MOST: Dict[str, Most] = {
-    "not": Most(60, 70, 20, 0, 20),
-    "trace": Most(120, 130, 35, 1, 40),
-    "trace with faults": Most(150, 160, 50, 1, 60),
-    "trace with faults and leaks": Most(170, 180, 60, 1, 60),
-    "hub": Most(130, 140, 50, 1, 60),
-    "hub and leaks": Most(150, 160, 60, 1, 60),
+    "not": Most(50, 60, 15, 1, 10),
+    "trace": Most(120, 130, 25, 1, 25),
+    "trace with faults": Most(155, 160, 45, 1, 40),
+    "trace with faults and leaks": Most(175, 180, 59, 1, 40),
+    "hub": Most(135, 135, 45, 1, 45),
+    "hub and leaks": Most(150, 155, 59, 1, 45),
 }
 
 

@@ -127,6 +127,9 @@ static int read_clock(int clock, struct timespec *now) { return clock_gettime(cl
 static const char is_alone = 0;
 struct library library = {.clock_gettime = read_clock, .__libc_single_threaded = &is_alone};
 bool has_other_threads(void) { return true; }
+struct code_range own_code;
+struct beginning beginning;
+int self_process(void) { return getpid(); }
 bool recorder_has_checks(void) { return true; }
 bool recorder_has_begun(void) { return true; }
 bool recorder_is_own_process(void) { return true; }

@@ -11,6 +11,7 @@
 
 #include "base/memory.h"
 #include "stacks/cfi.h"
+#include "shadow/mapping.h"
 #include "stacks/own_stack.h"
 #include "stacks/unwinding.h"
 
@@ -83,6 +84,12 @@ bool memory_is_there(struct known_page *known, uintptr_t address, size_t size)
     uintptr_t end = (uintptr_t)(code + sizeof code);
     (void)known;
     return address >= (uintptr_t)code && address < end && size <= end - address;
+}
+
+bool is_in_own_file(uint64_t start, uint64_t size)
+{
+    (void)start, (void)size;
+    return false;
 }
 
 static sigjmp_buf leaves;

@@ -12,6 +12,7 @@
 #include <sys/time.h>
 
 #include "calls/library.h"
+#include "shadow/mapping.h"
 #include "stacks/own_stack.h"
 #include "stacks/unwinding.h"
 
@@ -28,6 +29,12 @@ static void expect(bool holds, const char *what)
 /* What the other parts of the recorder would do. */
 
 _Thread_local struct own_stack own_stack;
+bool is_in_own_file(uint64_t start, uint64_t size)
+{
+    (void)start, (void)size;
+    return false;
+}
+
 struct library library;
 extern int _dl_find_object(void *address, struct dl_find_object *found) __attribute__((weak));
 
