@@ -10,8 +10,8 @@
 
 /* False: not all of it is there. */
 bool memory_read(uint64_t from, void *to, size_t size) OWN_NAME(memory_read);
-/* Reads as much from each of these addresses, by one call of the system. Answers how many it has read before one that is
-   not there. */
+/* Reads as much from each of these addresses, by one call of the system. Answers how many it has read before one that
+   is not there. */
 size_t memory_read_each(const uint64_t *from, unsigned char *const *to, size_t count, size_t size);
 /* Reads a text up to its zero, or as much of it as there is room for. False: it is not there. */
 bool memory_read_text(uint64_t from, char *to, size_t room) OWN_NAME(memory_read_text);

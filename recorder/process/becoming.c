@@ -61,8 +61,8 @@ static bool look_for(const char *name, char *path, bool *may_be)
     return false;
 }
 
-/* Puts the path of the file into the room, which has PATH_MAX bytes, or answers it as it was given. Null: none is found,
-   and then it is said whether it may be there. */
+/* Puts the path of the file into the room, which has PATH_MAX bytes, or answers it as it was given. Null: none is
+   found, and then it is said whether it may be there. */
 static const char *path_of(const struct target *target, char *room, bool *may_be)
 {
     static const char front[] = "/proc/self/fd/";

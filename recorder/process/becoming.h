@@ -19,8 +19,8 @@ struct target {
 
 /* Before an exec. False: there is nothing to take back. */
 bool becoming_note(const struct target *target);
-/* Likewise, and leaves the recording. Answers what is to be taken back if the exec fails, which may be nothing: so it is
-   where the system finds no such file. */
+/* Likewise, and leaves the recording. Answers what is to be taken back if the exec fails, which may be nothing: so it
+   is where the system finds no such file. */
 unsigned becoming_leave(const struct target *target);
 enum { LEFT_RECORDING = 1, LEFT_WORD = 2 };
 /* The exec has failed. */

@@ -14,7 +14,7 @@ extern struct beginning {
     bool is_set_user;     /* the environment is not to be believed */
     uint64_t system_code; /* where the code begins that the system maps into the process */
     const char *words;    /* the arguments as the system has put them, one behind the other */
-    uintptr_t end;        /* from argv up to here all is there that the system has put on the first stack; 0: nobody knows */
+    uintptr_t end;        /* of what the system has put on the first stack, from argv on; 0: nobody knows */
 } beginning OWN_NAME(beginning);
 
 void beginning_note(char **argv, char **variables) OWN_NAME(beginning_note);

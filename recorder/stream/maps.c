@@ -59,8 +59,7 @@ bool maps_is_module(const struct map_line *line)
 {
     struct map_line next;
     return line->is_first
-           && (line->is_code
-               || (maps_take_line(line->next, &next) && next.has_file && maps_is_same_file(line, &next)));
+           && (line->is_code || (maps_take_line(line->next, &next) && next.has_file && maps_is_same_file(line, &next)));
 }
 
 bool map_head_read(const struct map_head *head, uint64_t from, void *to, size_t size)

@@ -286,8 +286,8 @@ unsigned side_open_files(int files[SIDE_FILES])
     if (program >= 0)
         files[count++] = program;
     for (const char *at = modules_map(); count < SIDE_FILES && maps_take_line(at, &line); at = line.next) {
-        if (!maps_is_module(&line) || (program >= 0 && is_of_program(&line))
-            || !take_path(path, sizeof path, &line) || is_of_system(path))
+        if (!maps_is_module(&line) || (program >= 0 && is_of_program(&line)) || !take_path(path, sizeof path, &line)
+            || is_of_system(path))
             continue;
         int file = system_open(path, O_RDONLY | O_CLOEXEC | O_NONBLOCK | O_NOCTTY, 0);
         if (file >= 0 && program >= 0 && is_one_file(file, program))

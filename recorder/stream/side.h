@@ -44,7 +44,7 @@ _Atomic uint64_t *side_begin_calls(bool for_start);
 void side_end_calls(_Atomic uint64_t *calls);
 /* Up to where it has something. */
 uint64_t side_length(void);
-/* Notes the modules, with the build id of each and what of them was not checked, if there are others than were noted. */
+/* Notes the modules, with the build id of each and what was not checked, if there are others than were noted. */
 void side_write_modules(void);
 /* Likewise, unless the loader has counted the same generation of them when they were noted. */
 void side_look_at_generation(uint64_t generation);

@@ -156,9 +156,9 @@ static int execs_in_vain(void)
     return end_of(child) != 7;
 }
 
-static int has_other_title(char **words)
+static int has_other_title(char **argv)
 {
-    memset(words[0], 't', strlen(words[0]));
+    memset(argv[0], 't', strlen(argv[0]));
     pid_t child = fork();
     if (child == 0) {
         fault_here();
@@ -205,18 +205,24 @@ static int has_blocks(void)
     return blocks[999] == NULL;
 }
 
-int main(int count, char **words)
+int main(int argc, char **argv)
 {
     static const struct {
         const char *name;
         int (*does)(void);
-    } rows[] = {{"opens_in_child", opens_in_child}, {"opens_before", opens_before},
-                {"forks_in_thread", forks_in_thread}, {"forks_in_handler", forks_in_handler},
-                {"forks_after_conversion", forks_after_conversion}, {"closes_in_child", closes_in_child},
-                {"execs_in_vain", execs_in_vain}, {"forks_once", forks_once}, {"execs_once", execs_once},
-                {"tries_many", tries_many}, {"has_blocks", has_blocks}};
-    for (size_t i = 0; count > 1 && i < sizeof rows / sizeof *rows; i++)
-        if (strcmp(words[1], rows[i].name) == 0)
+    } rows[] = {{"opens_in_child", opens_in_child},
+                {"opens_before", opens_before},
+                {"forks_in_thread", forks_in_thread},
+                {"forks_in_handler", forks_in_handler},
+                {"forks_after_conversion", forks_after_conversion},
+                {"closes_in_child", closes_in_child},
+                {"execs_in_vain", execs_in_vain},
+                {"forks_once", forks_once},
+                {"execs_once", execs_once},
+                {"tries_many", tries_many},
+                {"has_blocks", has_blocks}};
+    for (size_t i = 0; argc > 1 && i < sizeof rows / sizeof *rows; i++)
+        if (strcmp(argv[1], rows[i].name) == 0)
             return rows[i].does();
-    return count > 1 && strcmp(words[1], "has_other_title") == 0 ? has_other_title(words) : 0;
+    return argc > 1 && strcmp(argv[1], "has_other_title") == 0 ? has_other_title(argv) : 0;
 }

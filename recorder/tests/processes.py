@@ -1,14 +1,12 @@
-"""Tests of what the start of a process costs, a fork, an exec and an end; and that the modules of each are known all the
-same, wherever they were loaded."""
+"""Tests of what the start of a process costs, a fork, an exec and an end; and that the modules of each are known all
+the same, wherever they were loaded."""
 
 import os
 from functools import partial
 from typing import Dict, List, NamedTuple, Tuple
 
 from hub import Hub, Peer, faults_of, lines_of, run_under
-from support import TESTS, Compiler, Suite, build, environment, expect, leave_out, run
-from testing.programs import call
-from testing.side import Side
+from support import TESTS, Compiler, Suite, build, expect, run
 
 FLAGS = ("-O1", "-w", "-pthread", "-fno-optimize-sibling-calls")
 
@@ -49,7 +47,11 @@ MOST: Dict[str, Most] = {
 
 
 def settings_of(kind: str, folder: str, hub: str) -> Dict[str, str]:
-    settings = {"ASANCOL_HUB": hub} if "hub" in kind else {"ASANCOL_TRACE": f"{folder}/%p.trace"} if "trace" in kind else {}
+    settings = {}
+    if "hub" in kind:
+        settings["ASANCOL_HUB"] = hub
+    if "trace" in kind:
+        settings["ASANCOL_TRACE"] = f"{folder}/%p.trace"
     if "faults" in kind:
         settings["ASANCOL_WHERE"] = "1"
     if "leaks" in kind:
@@ -69,7 +71,8 @@ def counts_of(folder: str, program: str, **settings: str) -> Most:
     found = {does: counted(folder, program, does, **settings)
              for does in ("nothing", "has_blocks", "forks_once", "tries_many", "execs_once")}
     start = found["nothing"][0][1]
-    child, becoming = ([calls for number, calls in found[does] if number == 1][0] for does in ("forks_once", "execs_once"))
+    child, becoming = (next(calls for number, calls in found[does] if number == 1)
+                       for does in ("forks_once", "execs_once"))
     return Most(start, found["has_blocks"][0][1], child, round((found["tries_many"][0][1] - start) / 100), becoming)
 
 

@@ -107,7 +107,10 @@ static enum stating state_free(uint64_t address)
     return STATING_DONE;
 }
 static void list_unchecked(char *list, const char *maps) { list[0] = maps[0] == 0 ? 0 : list[0]; }
-static uint64_t unchecked_state(void) { return 0; }
+static uint64_t unchecked_state(void)
+{
+    return 0;
+}
 const struct above above = {
     .lock_heap = lock_heap,
     .unlock_heap = unlock_heap,
@@ -129,7 +132,10 @@ struct library library = {.clock_gettime = read_clock, .__libc_single_threaded =
 bool has_other_threads(void) { return true; }
 struct code_range own_code;
 struct beginning beginning;
-int self_process(void) { return getpid(); }
+int self_process(void)
+{
+    return getpid();
+}
 bool recorder_has_checks(void) { return true; }
 bool recorder_has_begun(void) { return true; }
 bool recorder_is_own_process(void) { return true; }
