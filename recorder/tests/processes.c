@@ -113,9 +113,7 @@ static int forks_in_handler(void)
 /* The C library opens a module of its own, without the dlopen that the program may have. */
 static int forks_after_conversion(void)
 {
-    iconv_t conversion = iconv_open("IBM037", "ISO-8859-15");
-    if (conversion == (iconv_t)-1)
-        fail("iconv_open");
+    iconv_open("UTF-16", "ISO-8859-15");
     pid_t child = fork();
     if (child == 0) {
         fault_here();
