@@ -5,7 +5,7 @@ import os
 from functools import partial
 from typing import Dict, List, NamedTuple, Tuple
 
-from hub import Hub, Peer, faults_of, lines_of, run_under
+from hub import NUMBERS, Hub, Peer, faults_of, lines_of, run_under
 from support import TESTS, Compiler, Suite, build, expect, run
 from testing import LeftOut
 
@@ -84,12 +84,11 @@ def check_calls(suite: Suite, folder: str, compiler: Compiler, program: str) -> 
     compiler.c(folder, [f"{TESTS}/processes.c"], "plain", *FLAGS, native=True)
     plain = counts_of(folder, "./plain")
     for kind, most in MOST.items():
-        with Hub(f"{folder}/hub") as hub:
+        with Hub(f"{folder}/hub{next(NUMBERS)}") as hub:
             found = counts_of(folder, program, **settings_of(kind, folder, hub.path))
         more = Most(*(ours - theirs for ours, theirs in zip(found, plain)))
         for what, ours, allowed in zip(Most._fields, more, most):
             expect(ours <= allowed, True, f"{kind}: {what}: {ours} calls more, and at most {allowed} are allowed")
-        os.unlink(f"{folder}/hub")
 
 
 def run_program(folder: str, program: str, does: str) -> List[Peer]:
