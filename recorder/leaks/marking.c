@@ -35,8 +35,10 @@ bool marking_begin(void)
     marking.bytes = marks + count * sizeof *marking.found;
     marking.found_count = 0;
     marking.marks = take_memory(marking.bytes);
+    if (marking.marks == NULL)
+        return false;
     marking.found = (uint32_t *)(void *)(marking.marks + marks);
-    return marking.marks != NULL;
+    return true;
 }
 
 void marking_end(void)

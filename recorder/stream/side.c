@@ -99,7 +99,7 @@ static void note_process(struct side *side, uint64_t segment)
 {
     static uint32_t process, parent;
     static uint64_t started, of_parent, of_parent_started;
-    struct timespec now;
+    struct timespec now = {0, 0};
     if (segment == 0) {
         uint32_t now_is = (uint32_t)self_process();
         if (process != now_is) { /* a forked child has these from its parent, or zeros */
