@@ -10,7 +10,7 @@ from support import TESTS, TOP, Compiler, Suite, expect, run
 
 RUN = f"{TOP}/run/asancol-run"
 # How many megabytes a process may have had at most, with its shadow and the allocator's notes.
-MOST = 120
+MOST = 150
 QUARANTINES = ("", "0", "100000")
 
 
