@@ -90,7 +90,9 @@ static bool start(struct process *process, int input)
         process->verdicts = memfd_create("verdicts", MFD_CLOEXEC);
     if (process->verdicts >= 0) {
         struct strings argv = argv_for(process);
-        process->checker = child_start(ROLE_CHECKER, process, checkers.program, argv.items, input, process->verdicts);
+        const struct start start = {ROLE_CHECKER, process, checkers.program, argv.items, input, process->verdicts, NULL,
+                                    0};
+        process->checker = child_start(&start);
         free(argv.items);
     }
     if (process->checker != 0) {

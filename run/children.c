@@ -2,11 +2,12 @@
 #include "children.h"
 
 #include <errno.h>
+#include <fcntl.h>
 #include <signal.h>
-#include <spawn.h>
 #include <stdio.h>
 #include <stdlib.h>
 #include <string.h>
+#include <sys/wait.h>
 #include <unistd.h>
 
 #include "say.h"
@@ -16,15 +17,15 @@ extern char **environ;
 struct child {
     pid_t number;
     enum role role;
-    struct process *process;
+    void *owner;
     struct child *next;
 };
 
 enum { BUCKETS = 4096 };
 static struct child *buckets[BUCKETS];
-static sigset_t mask_before, usual;
+static sigset_t mask; /* of what is started */
+static bool pipes_end; /* SIGPIPE ends what is started, though it is ignored here */
 static char **checkers_environment;
-static int for_report[16], for_report_count; /* descriptors: each output is at most one */
 
 /* Makes the environment of the checkers: this one, and huge pages for the shadow, unless it says something of them. */
 static void make_environment(void)
@@ -52,10 +53,10 @@ void children_begin(void)
 {
     make_environment();
     struct sigaction action;
-    sigprocmask(SIG_SETMASK, NULL, &mask_before);
-    sigemptyset(&usual);
-    if (sigaction(SIGPIPE, NULL, &action) == 0 && action.sa_handler == SIG_DFL)
-        sigaddset(&usual, SIGPIPE); /* ignored here, later */
+    sigprocmask(SIG_SETMASK, NULL, &mask);
+    /* A report may go to a terminal whose foreground is the command: stty tostop must not hold it. */
+    sigaddset(&mask, SIGTTOU);
+    pipes_end = sigaction(SIGPIPE, NULL, &action) == 0 && action.sa_handler == SIG_DFL;
 }
 
 static struct child **bucket(pid_t number)
@@ -63,59 +64,63 @@ static struct child **bucket(pid_t number)
     return &buckets[(unsigned)number % BUCKETS];
 }
 
-static void add(pid_t number, enum role role, struct process *process)
+static void add(pid_t number, enum role role, void *owner)
 {
     struct child *made = must(malloc(sizeof *made));
-    *made = (struct child){number, role, process, *bucket(number)};
+    *made = (struct child){number, role, owner, *bucket(number)};
     *bucket(number) = made;
 }
 
-void child_keep_for_report(int descriptor)
+/* Gives a descriptor to the program, under this number. */
+static bool give(int from, int to)
 {
-    if (for_report_count < (int)(sizeof for_report / sizeof *for_report))
-        for_report[for_report_count++] = descriptor;
+    return from == to ? fcntl(to, F_SETFD, 0) == 0 : dup2(from, to) == to;
 }
 
-pid_t child_start(enum role role, struct process *process, const char *program, const char *const *argv, int input,
-                  int output)
+/* What the child does before it becomes the program: in the memory of its parent, which waits. No signal has a handler
+   here, so the system gives each its default action that is not ignored. Answers an error. */
+static int become(const struct start *start, char **environment)
 {
-    posix_spawn_file_actions_t actions;
-    posix_spawnattr_t attributes;
-    pid_t child = 0;
-    sigset_t mask = mask_before;
-    /* A report may go to a terminal whose foreground is the command: stty tostop must not hold it. */
-    sigaddset(&mask, SIGTTOU);
-    posix_spawn_file_actions_init(&actions);
-    posix_spawn_file_actions_adddup2(&actions, input, STDIN_FILENO);
-    posix_spawn_file_actions_adddup2(&actions, output, STDOUT_FILENO);
-    posix_spawn_file_actions_adddup2(&actions, STDERR_FILENO, STDERR_FILENO);
-    for (int i = 0; role == ROLE_REPORT && i < for_report_count; i++)
-        posix_spawn_file_actions_adddup2(&actions, for_report[i], for_report[i]); /* on itself: it stays open */
-    posix_spawnattr_init(&attributes);
+    const struct sigaction usual = {.sa_handler = SIG_DFL};
     /* What is typed at the terminal ends the command, and not its check. */
-    posix_spawnattr_setflags(&attributes, POSIX_SPAWN_SETPGROUP | POSIX_SPAWN_SETSIGMASK | POSIX_SPAWN_SETSIGDEF);
-    posix_spawnattr_setpgroup(&attributes, 0);
-    posix_spawnattr_setsigmask(&attributes, &mask);
-    posix_spawnattr_setsigdefault(&attributes, &usual);
-    char **environment = role == ROLE_CHECKER ? checkers_environment : environ;
-    int error = posix_spawn(&child, program, &actions, &attributes, (char *const *)(uintptr_t)argv, environment);
-    posix_spawn_file_actions_destroy(&actions);
-    posix_spawnattr_destroy(&attributes);
+    bool is_ready = setpgid(0, 0) == 0 && give(start->input, STDIN_FILENO) && give(start->output, STDOUT_FILENO)
+                    && give(STDERR_FILENO, STDERR_FILENO);
+    for (size_t i = 0; is_ready && i < start->passed_count; i++)
+        is_ready = give(start->passed[i], start->passed[i]);
+    if (is_ready && (!pipes_end || sigaction(SIGPIPE, &usual, NULL) == 0)
+        && sigprocmask(SIG_SETMASK, &mask, NULL) == 0)
+        execve(start->program, (char *const *)(uintptr_t)start->argv, environment);
+    return errno;
+}
+
+/* Not by posix_spawn, which asks for the action of each signal. */
+pid_t child_start(const struct start *start)
+{
+    char **environment = start->role == ROLE_CHECKER ? checkers_environment : environ;
+    volatile int error = 0;
+    pid_t child = vfork();
+    if (child == 0) {
+        error = become(start, environment);
+        _exit(NOT_FOUND);
+    }
+    if (child < 0)
+        return 0;
     if (error != 0) {
+        waitpid(child, NULL, 0);
         errno = error;
         return 0;
     }
-    add(child, role, process);
+    add(child, start->role, start->owner);
     return child;
 }
 
-bool child_take(pid_t number, enum role *role, struct process **process)
+bool child_take(pid_t number, enum role *role, void **owner)
 {
     for (struct child **at = bucket(number); *at != NULL; at = &(*at)->next) {
         struct child *found = *at;
         if (found->number == number) {
             *role = found->role;
-            *process = found->process;
+            *owner = found->owner;
             *at = found->next;
             free(found);
             return true;

@@ -172,20 +172,20 @@ static void reap(void)
     int status;
     while ((child = waitpid(-1, &status, WNOHANG)) > 0) {
         enum role role;
-        struct process *process;
+        void *owner;
         if (child == run.command) {
             death_note(child, status);
             run.status = status;
             run.ended = run.wait_from = now();
             run.command = 0;
             run.look_at = 0;
-        } else if (!child_take(child, &role, &process)) {
+        } else if (!child_take(child, &role, &owner)) {
             death_note(child, status);
             run.look_at = 0;
         } else if (role == ROLE_REPORT) {
             report_has_ended(status);
         } else {
-            checker_has_ended(process, role == ROLE_TEE, status);
+            checker_has_ended(owner, role == ROLE_TEE, status);
         }
     }
 }

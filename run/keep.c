@@ -122,7 +122,8 @@ int keep_start(struct process *process)
     const char *argv[] = {"tee", "--", process->kept, NULL};
     if (pipe2(ends, O_CLOEXEC) != 0)
         return -1;
-    process->tee = child_start(ROLE_TEE, process, tee_program, argv, process->connection, ends[1]);
+    const struct start start = {ROLE_TEE, process, tee_program, argv, process->connection, ends[1], NULL, 0};
+    process->tee = child_start(&start);
     int error = errno;
     close(ends[1]);
     if (process->tee != 0)

@@ -14,7 +14,7 @@
 #include "common/array.h"
 #include "common/distance.h"
 #include "common/format.h"
-#include "children.h"
+#include "report.h"
 #include "names.h"
 #include "option_table.h"
 #include "preload.h"
@@ -231,7 +231,7 @@ static void pass_descriptor(struct options *options, const char *dashed, const c
     }
     if (asprintf(&path, "/dev/fd/%d", copy) < 0)
         must(NULL);
-    child_keep_for_report(copy);
+    report_keep(copy);
     pass(options, dashed, path);
     options->has_output = true;
 }

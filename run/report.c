@@ -15,6 +15,7 @@
 #include <unistd.h>
 
 #include "children.h"
+#include "common/array.h"
 #include "hub.h"
 #include "json.h"
 #include "names.h"
@@ -40,6 +41,8 @@ static struct {
     struct message *first, **last;
     size_t held;
     struct strings argv;
+    int outputs[16]; /* descriptors: each output is at most one */
+    size_t output_count;
     int socket; /* -1: not started, or gone */
     pid_t child;
     bool was_started, had_child, is_broken, has_ended, is_over;
@@ -353,6 +356,12 @@ void report_has_ended(int status)
         give_up();
 }
 
+void report_keep(int descriptor)
+{
+    if (report.output_count < COUNT(report.outputs))
+        report.outputs[report.output_count++] = descriptor;
+}
+
 /* Its arguments: what the command line says, and what a run inside this one and one round it have to do with it. */
 static const char *const *words_of_report(const char *program)
 {
@@ -395,7 +404,9 @@ void report_start(void)
     if (program == NULL)
         errno = ENOENT;
     if (program != NULL && socketpair(AF_UNIX, SOCK_SEQPACKET | SOCK_CLOEXEC, 0, ends) == 0) {
-        report.child = child_start(ROLE_REPORT, NULL, program, words_of_report(program), ends[1], say_descriptor());
+        const struct start start = {ROLE_REPORT, NULL, program, words_of_report(program), ends[1], say_descriptor(),
+                                    report.outputs, report.output_count};
+        report.child = child_start(&start);
         int error = errno;
         close(ends[1]);
         report.socket = ends[0];
