@@ -7,6 +7,7 @@
 #include <stdio.h>
 #include <stdlib.h>
 #include <string.h>
+#include <sys/ioctl.h>
 #include <sys/mman.h>
 #include <sys/socket.h>
 #include <sys/wait.h>
@@ -18,6 +19,7 @@
 #include "report.h"
 #include "say.h"
 #include "segments.h"
+#include "shared.h"
 #include "unchecked.h"
 #include "verdict.h"
 
@@ -54,6 +56,20 @@ static struct strings argv_for(const struct process *process)
     return argv;
 }
 
+const char *checkers_program(void)
+{
+    return checkers.program;
+}
+
+struct strings checkers_words(void)
+{
+    struct strings words = {0};
+    strings_add(&words, "asancol");
+    strings_add(&words, "check");
+    strings_add_all(&words, checkers.options.items, checkers.options.count);
+    return words;
+}
+
 void checkers_begin(const struct options *options)
 {
     checkers.program = find_own_program("asancol", "ASANCOL");
@@ -83,12 +99,17 @@ static void close_one(int *descriptor)
     *descriptor = -1;
 }
 
-/* Runs the checker over an input, which it closes here unless there are no resources. */
-static bool start(struct process *process, int input)
+static bool has_place_for_verdicts(struct process *process)
 {
     if (process->verdicts < 0)
         process->verdicts = memfd_create("verdicts", MFD_CLOEXEC);
-    if (process->verdicts >= 0) {
+    return process->verdicts >= 0;
+}
+
+/* Runs the checker over an input, which it closes here unless there are no resources. */
+static bool start(struct process *process, int input)
+{
+    if (has_place_for_verdicts(process)) {
         struct strings argv = argv_for(process);
         const struct start start = {ROLE_CHECKER, process, checkers.program, argv.items, input, process->verdicts, NULL,
                                     0};
@@ -145,8 +166,22 @@ bool checker_answers(struct process *process)
     return side_answer(process->connection, &process->side_error);
 }
 
+/* No event finds room in such a stream, so what the process holds says nothing of it. */
+bool checker_can_wait(struct process *process)
+{
+    int size = 0;
+    meet(process);
+    return !checkers.keeps && process->cut == CUT_NONE && process->side != NULL
+           && ioctl(process->connection, FIONREAD, &size) == 0 && size > 0 && size <= SMALL_STREAM
+           && verdict_is_clean(process);
+}
+
 bool checker_start(struct process *process)
 {
+    if (process->aside >= 0) {
+        lseek(process->aside, 0, SEEK_SET); /* unless it is a pipe */
+        return start(process, process->aside);
+    }
     meet(process);
     if (process->cut == CUT_NONE && has_sent_nothing(process)) {
         if (segments_take_empty(process)) {
@@ -234,6 +269,7 @@ static void finish(struct process *process)
 {
     process_is_done(process);
     close_one(&process->connection);
+    close_one(&process->aside);
     verdict_read(process);
     unchecked_take(process);
     bool is_several = segments_are_several(process);
@@ -246,6 +282,15 @@ static void finish(struct process *process)
         let_side_go(process);
     else if (segments_are_complete(process))
         checker_sum_up(process);
+}
+
+bool checker_take_text(struct process *process, const char *text, size_t length, int status)
+{
+    if (!has_place_for_verdicts(process) || pwrite(process->verdicts, text, length, 0) != (ssize_t)length)
+        return false;
+    process->checker_status = status;
+    finish(process);
+    return true;
 }
 
 void checker_give_up(struct process *process, const char *why)

@@ -1,9 +1,11 @@
-/* Each recorded process has a checker: an asancol whose standard input is the connection. */
+/* Each recorded process has a checker: an asancol whose standard input is the connection, or has one with others
+   (shared.h). */
 #ifndef ASANCOL_RUN_CHECKERS_H
 #define ASANCOL_RUN_CHECKERS_H
 
 #include <stdbool.h>
 
+#include "common/strings.h"
 #include "options.h"
 #include "processes.h"
 
@@ -11,6 +13,13 @@
 void checkers_begin(const struct options *options);
 /* Starts the checker of a process that has sent its first bytes. False: there are no resources now, try again. */
 bool checker_start(struct process *process);
+/* Whether it can do without: its stream is small, and nothing is known that a report would show. */
+bool checker_can_wait(struct process *process);
+/* The program, and the first words of its command line before names of files. */
+const char *checkers_program(void);
+struct strings checkers_words(void);
+/* Takes the text and the status of a checker that it had with others. False: there are no resources now. */
+bool checker_take_text(struct process *process, const char *text, size_t length, int status);
 /* Whether what it has sent is a question, which comes before those bytes. It is answered. */
 bool checker_answers(struct process *process);
 /* Checks a trace that is in a file. Likewise. */

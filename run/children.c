@@ -96,7 +96,8 @@ static int become(const struct start *start, char **environment)
 /* Not by posix_spawn, which asks for the action of each signal. */
 pid_t child_start(const struct start *start)
 {
-    char **environment = start->role == ROLE_CHECKER ? checkers_environment : environ;
+    bool checks = start->role == ROLE_CHECKER || start->role == ROLE_SHARED;
+    char **environment = checks ? checkers_environment : environ;
     volatile int error = 0;
     pid_t child = vfork();
     if (child == 0) {

@@ -6,7 +6,7 @@
 #include <stddef.h>
 #include <sys/types.h>
 
-enum role { ROLE_CHECKER, ROLE_TEE, ROLE_REPORT };
+enum role { ROLE_CHECKER, ROLE_SHARED, ROLE_TEE, ROLE_REPORT };
 
 /* Notes how signals stand, before the first signal is blocked. */
 void children_begin(void);

@@ -20,6 +20,7 @@
 #include "deaths.h"
 #include "descendants.h"
 #include "folder.h"
+#include "held.h"
 #include "hub.h"
 #include "marks.h"
 #include "modules.h"
@@ -28,6 +29,7 @@
 #include "report.h"
 #include "say.h"
 #include "segments.h"
+#include "shared.h"
 #include "signals.h"
 
 /* What a process holds here while it is checked, and how many more descriptors are kept free. */
@@ -77,6 +79,16 @@ static void count_descriptors(void)
     run.descriptors = most > limit.rlim_cur && setrlimit(RLIMIT_NOFILE, &more) == 0 ? most : limit.rlim_cur;
 }
 
+/* With few descriptors each process gets its checker at once. */
+static void hold_processes(void)
+{
+    count_descriptors();
+    if (run.descriptors < run.base + HELD_BY_PROCESS)
+        return;
+    held_begin();
+    count_descriptors();
+}
+
 static bool has_room(void)
 {
     size_t held = run.base + HELD_BY_PROCESS * process_live_count() + report_held() + modules_held();
@@ -92,17 +104,10 @@ static void add_pending(struct process *process)
     run.pending[run.pending_count++] = process;
 }
 
-/* Whether its connection has no other end any more. */
-static bool has_hung_up(const struct process *process)
-{
-    struct pollfd end = {process->connection, POLLRDHUP, 0};
-    return process->connection < 0 || (poll(&end, 1, 0) == 1 && (end.revents & (POLLRDHUP | POLLHUP | POLLERR)));
-}
-
 /* What has come in is still checked. The process runs on. */
 static void cut_process(struct process *process)
 {
-    if (process->stage == STAGE_DONE || has_hung_up(process))
+    if (process->stage == STAGE_DONE || process_has_hung_up(process))
         return;
     if (process->cut == CUT_NONE)
         process->cut = CUT_BY_WAIT;
@@ -184,6 +189,8 @@ static void reap(void)
             run.look_at = 0;
         } else if (role == ROLE_REPORT) {
             report_has_ended(status);
+        } else if (role == ROLE_SHARED) {
+            shared_has_ended(owner, status);
         } else {
             checker_has_ended(owner, role == ROLE_TEE, status);
         }
@@ -215,15 +222,16 @@ static void read_signals(void)
     reap();
 }
 
-/* Starts the checkers of those that have sent their first bytes. */
+/* Those that have sent their first bytes wait for others, or have checkers started. */
 static void start_pending(const struct pollfd *polls)
 {
     size_t kept = 0, count = run.pending_count;
     for (size_t i = 0; i < count; i++) {
         struct process *process = run.pending[i];
-        bool is_started = process->stage != STAGE_CONNECTED, has_come = polls[i].revents != 0;
-        if (!is_started && has_come && now() >= run.short_until && !checker_answers(process)) {
-            is_started = checker_start(process);
+        bool is_started = process->stage != STAGE_CONNECTED, is_aside = process->aside >= 0;
+        bool has_come = is_aside || polls[i].revents != 0;
+        if (!is_started && has_come && now() >= run.short_until && (is_aside || !checker_answers(process))) {
+            is_started = held_take(process) || checker_start(process);
             if (!is_started)
                 run.short_until = now() + SHORTAGE;
         }
@@ -231,6 +239,26 @@ static void start_pending(const struct pollfd *polls)
             run.pending[kept++] = process;
     }
     run.pending_count = kept;
+}
+
+/* Those whose streams are small: checks what is due, and takes back who needs a checker of its own. */
+static void take_held(bool is_ready, bool hurries)
+{
+    struct process *process;
+    held_look(is_ready);
+    shared_start(hurries || run.ended != 0);
+    while ((process = shared_next_alone()) != NULL)
+        add_pending(process);
+}
+
+/* How many seconds nothing is due, at most as many. */
+static double until_due(double seconds, bool is_short)
+{
+    double first = held_due() < shared_due() ? held_due() : shared_due(), left = first - now();
+    for (size_t i = 0; !is_short && i < run.pending_count; i++)
+        if (run.pending[i]->aside >= 0)
+            return 0;
+    return left >= seconds ? seconds : left > 0 ? left : 0;
 }
 
 /* poll refuses more entries than a process may have descriptors, and counts those that it passes over. */
@@ -258,7 +286,7 @@ static int poll_used(struct pollfd *polls, size_t count, int timeout)
 /* Waits once, at most so long, and does what there is to do. */
 static void turn(double seconds)
 {
-    enum { SIGNALS, FIRST, SECOND, REPORT, ASKING, FIXED = ASKING + ASKING_POLLS };
+    enum { SIGNALS, FIRST, SECOND, REPORT, HELD, ASKING, FIXED = ASKING + ASKING_POLLS };
     static struct pollfd *polls;
     static size_t room;
     size_t count = run.pending_count;
@@ -271,6 +299,8 @@ static void turn(double seconds)
     for (int i = 0; i < HUB_LISTENERS; i++) /* -1 is passed over */
         polls[FIRST + i] = (struct pollfd){accepts ? hub_listeners()[i] : -1, POLLIN, 0};
     polls[REPORT] = report_poll();
+    polls[HELD] = held_poll();
+    seconds = until_due(seconds, is_short);
     seconds = asking_polls(polls + ASKING, seconds);
     for (size_t i = 0; i < count; i++)
         polls[FIXED + i] = (struct pollfd){is_short ? -1 : run.pending[i]->connection, POLLIN, 0};
@@ -283,6 +313,7 @@ static void turn(double seconds)
     report_send();
     asking_take(polls + ASKING);
     start_pending(polls + FIXED);
+    take_held(polls[HELD].revents != 0, !accepts);
     for (int i = 0; i < HUB_LISTENERS; i++)
         if (polls[FIRST + i].revents != 0)
             accept_from(hub_listeners()[i]);
@@ -465,7 +496,7 @@ struct collected collect(const struct options *options, pid_t command, int signa
     run.signals = signals;
     run.started = now();
     run.timeout_at = options->timeout > 0 ? run.started + options->timeout : 0;
-    count_descriptors();
+    hold_processes();
     modules_allow(run.descriptors / 4);
     while (!is_over())
         turn(act());

@@ -61,6 +61,19 @@ bool end_line_read(const char *line, struct end_line *end)
     return skip(&line, " reports ") && take_number(&line, &end->reports) && *line == 0;
 }
 
+bool end_line_of(const char *text, size_t length, struct end_line *end)
+{
+    char tail[MAX_LINE + 1];
+    *end = (struct end_line){0};
+    if (length == 0 || text[length - 1] != '\n')
+        return false;
+    size_t kept = length - 1 < MAX_LINE ? length - 1 : MAX_LINE;
+    memcpy(tail, text + length - 1 - kept, kept);
+    tail[kept] = 0;
+    const char *line = strrchr(tail, '\n');
+    return end_line_read(line != NULL ? line + 1 : tail, end);
+}
+
 bool end_line_find(int verdicts, struct end_line *end)
 {
     char tail[MAX_LINE + 1];
@@ -70,9 +83,5 @@ bool end_line_find(int verdicts, struct end_line *end)
         return false;
     off_t from = seen.st_size > MAX_LINE ? seen.st_size - MAX_LINE : 0;
     ssize_t length = pread(verdicts, tail, MAX_LINE, from);
-    if (length <= 0 || tail[length - 1] != '\n')
-        return false;
-    tail[length - 1] = 0;
-    const char *line = strrchr(tail, '\n');
-    return end_line_read(line != NULL ? line + 1 : tail, end);
+    return end_line_of(tail, length > 0 ? (size_t)length : 0, end);
 }

@@ -3,6 +3,7 @@
 #define ASANCOL_RUN_END_LINE_H
 
 #include <stdbool.h>
+#include <stddef.h>
 #include <stdint.h>
 
 struct end_line {
@@ -13,6 +14,8 @@ struct end_line {
 /* Reads "p0 end FATE events E offset O reports R", "p0 end no-memory checked E reports R" or "p0 end FATE". False: it
    is none of these. */
 bool end_line_read(const char *line, struct end_line *end);
+/* Reads the last line of a text. False: there is none, or it is none of these. */
+bool end_line_of(const char *text, size_t length, struct end_line *end);
 /* Reads the last line of what a checker has written to a file. False: there is none, or it is none of these. */
 bool end_line_find(int verdicts, struct end_line *end);
 

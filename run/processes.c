@@ -1,6 +1,7 @@
 #define _GNU_SOURCE
 #include "processes.h"
 
+#include <poll.h>
 #include <stdio.h>
 #include <stdlib.h>
 #include <string.h>
@@ -20,7 +21,7 @@ struct process *process_add(void)
         processes = must(realloc(processes, room * sizeof *processes));
     }
     struct process *made = must(calloc(1, sizeof *made));
-    made->connection = made->side_memory = made->verdicts = -1;
+    made->connection = made->side_memory = made->verdicts = made->aside = -1;
     made->first_seen = made->first_segment = made;
     made->place = count;
     processes[count++] = made;
@@ -44,6 +45,12 @@ size_t process_number(struct process *first_seen)
     if (first_seen->number == 0)
         first_seen->number = ++numbered;
     return first_seen->number - 1;
+}
+
+bool process_has_hung_up(const struct process *process)
+{
+    struct pollfd end = {process->connection, POLLRDHUP, 0};
+    return process->connection < 0 || (poll(&end, 1, 0) == 1 && (end.revents & (POLLRDHUP | POLLHUP | POLLERR)));
 }
 
 size_t process_live_count(void)

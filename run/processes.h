@@ -11,8 +11,8 @@
 #include "side.h"
 
 enum stage {
-    STAGE_CONNECTED, /* it has sent nothing yet */
-    STAGE_CHECKED,   /* its checker runs */
+    STAGE_CONNECTED, /* it has no checker yet */
+    STAGE_CHECKED,   /* its checker runs, or that of several */
     STAGE_DONE
 };
 
@@ -26,6 +26,9 @@ struct process {
     pid_t peer;                         /* as the system numbers it for us; 0: not known */
     int own_number, parent;             /* as it knows them itself */
     int connection, side_memory, verdicts; /* descriptors; -1: there is none */
+    int aside;                          /* likewise: the whole stream of one that has ended, in place of the connection */
+    bool is_alone;                      /* it is to have a checker of its own, */
+    struct process *next_alone;         /* as has this one, or null */
     const struct side *side;            /* or null */
     int side_error;                     /* by which the process could not make that memory, or 0 */
     struct modules modules;             /* until it is done */
@@ -93,6 +96,8 @@ static inline bool process_is_first_seen(const struct process *process)
     return process->first_seen == process;
 }
 
+/* Whether its connection has no other end any more. */
+bool process_has_hung_up(const struct process *process);
 /* How many are not done. */
 size_t process_live_count(void);
 /* Notes that it is done. */

@@ -408,6 +408,19 @@ void verdict_begin(bool counts_leaks, bool wants_mismatches)
     not_wanted = (uint64_t)(counts_leaks ? 0 : SKIPPED_LEAKS) | (wants_mismatches ? 0 : SKIPPED_FAMILIES);
 }
 
+bool verdict_is_clean(const struct process *process)
+{
+    struct side_progress progress = side_progress(process->side);
+    uint64_t shown = progress.findings - (leaks_count ? 0 : progress.leaks);
+    return progress.needed == 1 && progress.noted == 0 && progress.inside == 0 && shown == 0;
+}
+
+bool verdict_is_at_end(const struct process *process)
+{
+    uint32_t ending = process->side->ending;
+    return ending == ENDING_EXIT || ending == ENDING_EXEC;
+}
+
 /* No process comes so far. What says more is no memory of a recorder's. */
 #define MAX_LEFT_GOOD (UINT64_C(1) << 48)
 

@@ -9,6 +9,10 @@
 /* Whether leaks are findings as any other, and are not only summed up; and whether a process that does not look for
    mismatches of functions that allocate and free has to be named. */
 void verdict_begin(bool counts_leaks, bool wants_mismatches);
+/* Of one with a side memory: whether nothing bad stands there that a report would show; and whether it has ended by an
+   exit or an exec. */
+bool verdict_is_clean(const struct process *process);
+bool verdict_is_at_end(const struct process *process);
 /* Reads what its checker has printed, and judges. Before that, why may say why it was not checked. */
 void verdict_read(struct process *process);
 /* Judges again what was not settled: how it ended, and how many events were left out. True if this has changed

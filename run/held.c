@@ -1,0 +1,110 @@
+#define _GNU_SOURCE
+#include "held.h"
+
+#include <math.h>
+#include <stdlib.h>
+#include <sys/epoll.h>
+#include <unistd.h>
+
+#include "checkers.h"
+#include "say.h"
+#include "shared.h"
+#include "verdict.h"
+
+/* How many seconds one may live without a checker. */
+static const double PATIENCE = 0.2;
+/* So many events are taken in one call. */
+enum { EVENTS = 64 };
+
+struct held {
+    struct process *process;
+    double until;
+    struct held *next, **link; /* what points to it */
+};
+
+static int events = -1; /* an epoll, which tells of each that sends or ends, once */
+static struct held *oldest, **end = &oldest;
+
+void held_begin(void)
+{
+    events = epoll_create1(EPOLL_CLOEXEC);
+    if (events < 0 || shared_begin())
+        return;
+    close(events);
+    events = -1;
+}
+
+struct pollfd held_poll(void)
+{
+    return (struct pollfd){events, POLLIN, 0};
+}
+
+double held_due(void)
+{
+    return oldest != NULL ? oldest->until : INFINITY;
+}
+
+static bool add(struct process *process)
+{
+    struct held *made = must(malloc(sizeof *made));
+    struct epoll_event event = {.events = EPOLLIN | EPOLLRDHUP | EPOLLET, .data.ptr = made};
+    if (epoll_ctl(events, EPOLL_CTL_ADD, process->connection, &event) != 0) {
+        free(made);
+        return false;
+    }
+    *made = (struct held){process, now() + PATIENCE, NULL, end};
+    *end = made;
+    end = &made->next;
+    return true;
+}
+
+static void drop(struct held *held)
+{
+    epoll_ctl(events, EPOLL_CTL_DEL, held->process->connection, NULL);
+    *held->link = held->next;
+    if (held->next != NULL)
+        held->next->link = held->link;
+    else
+        end = held->link;
+    free(held);
+}
+
+/* Whether it has ended, so that it is checked with others. All that it has sent is here then. */
+static bool is_shared(struct process *process)
+{
+    return verdict_is_at_end(process) && shared_take(process);
+}
+
+bool held_take(struct process *process)
+{
+    if (events < 0 || process->is_alone)
+        return false;
+    bool has_ended = process_has_hung_up(process); /* before what it has sent is looked at */
+    if (!checker_can_wait(process))
+        return false;
+    return has_ended ? is_shared(process) : add(process);
+}
+
+static void look(struct held *held, bool is_over)
+{
+    struct process *process = held->process;
+    bool has_ended = process_has_hung_up(process), can_wait = checker_can_wait(process);
+    if (can_wait && !has_ended && !is_over)
+        return;
+    drop(held);
+    if (!can_wait || !has_ended || !is_shared(process))
+        shared_add_alone(process);
+}
+
+void held_look(bool is_ready)
+{
+    struct epoll_event found[EVENTS];
+    int count = is_ready ? EVENTS : 0;
+    while (count == EVENTS) {
+        count = epoll_wait(events, found, EVENTS, 0);
+        for (int i = 0; i < count; i++)
+            look(found[i].data.ptr, false);
+    }
+    while (oldest != NULL && now() >= oldest->until)
+        look(oldest, true);
+}

@@ -1,0 +1,116 @@
+"""Processes that live shortly have a checker together. What is said of them is what is said with one for each."""
+
+import os
+from typing import Any, List, Tuple
+
+from support import RUN, TESTS, Suite, expect, expect_ran, read_packets
+
+GARBAGE = "import os, socket; s = socket.socket(socket.AF_UNIX); s.connect(os.environ['ASANCOL_HUB']); s.send({})"
+# So many end soon, and well.
+SHORT = 40
+
+
+def checker(suite: Suite, folder: str, line: str) -> str:
+    """Returns a checker that does this first, in a shell, with the words of its command line."""
+    path = f"{folder}/asancol"
+    with open(path, "w", encoding="utf-8") as script:
+        script.write(f'#!/bin/sh\n{line}\nexec {suite.asancol} "$@"\n')
+    os.chmod(path, 0o755)
+    return path
+
+
+def starts(folder: str) -> List[int]:
+    """Returns how many words each checker was given, and forgets them."""
+    with open(f"{folder}/words", encoding="utf-8") as words:
+        found = [int(it) for it in words]
+    os.remove(f"{folder}/words")
+    return found
+
+
+def mixed(suite: Suite) -> str:
+    """Returns a line of a shell with short processes, and between them others of each kind."""
+    program = suite.program
+    others = [f"{program} past 2", f"{program} child", f"{program} execs", f"{program} many 500", f"{program} sleeps 0.5",
+              f"{program} kills_itself", f"{program} crashes", f'python3 -c "{GARBAGE.format("b" + repr("junk" * 9))}"',
+              f'python3 -c "{GARBAGE.format("b" + repr("ASTR"))}"', f"{TESTS}/segmented.py 1 2b 3e",
+              f"{TESTS}/segmented.py 1 2k", suite.unchecked + " sound"]
+    short = f"i=0; while [ $i -lt 4 ]; do {program} sound; i=$((i+1)); done"
+    return "; ".join(f"{short}; {other}" for other in others) + "; exit 0"
+
+
+def said_of(processes: List[Any]) -> List[Tuple[Any, ...]]:
+    """Returns what was said of each process, in the order of processes: the last word, and all verdicts."""
+    last = {it["n"]: {name: it.get(name) for name in ("fate", "events", "reports", "findings", "whole", "left_out",
+                                                      "signal", "why", "abrupt", "command", "segments")}
+            for it in processes}
+    verdicts = sorted((it["n"], it.get("segment", 0), it["verdicts"]) for it in processes if "verdicts" in it)
+    return [*sorted(last.items(), key=lambda it: it[0]), *verdicts]
+
+
+def check_mixed(suite: Suite, folder: str) -> None:
+    """With --keep each process has a checker for itself."""
+    noting = checker(suite, folder, f"echo $# >> {folder}/words")
+    said, statuses, counts = [], [], []
+    for options in ([], ["--keep", f"{folder}/kept"]):
+        packets = f"{folder}/packets"
+        argv = [*options, "--exitcode=7", "--", "sh", "-c", mixed(suite)]
+        ran = suite.run(*argv, ASANCOL=noting, FAKE_PACKETS=packets)
+        statuses.append((ran.status, ran.out))
+        said.append(said_of([it for it in read_packets(packets)[1:] if it["type"] == "process"]))
+        counts.append(starts(folder))
+    for together, apart in zip(*said):
+        expect(together, apart, "what is said")
+    expect(len(said[0]), len(said[1]), "processes and verdicts")
+    expect(statuses[0], statuses[1], "status and output")
+    expect(2 * len(counts[0]) < len(counts[1]), True, f"checkers: {counts}")
+    expect((max(counts[0]) > 3, max(counts[1])), (True, 0), f"words of a checker: {counts}")
+
+
+def check_failing(suite: Suite, folder: str, line: str) -> None:
+    """A checker of many that fails costs none of them its verdict."""
+    failing = checker(suite, folder, f'echo $# >> {folder}/words\nif [ "$1" = check ]; then {line}; fi')
+    each = f"i=0; while [ $i -lt {SHORT} ]; do {suite.program} sound > /dev/null; i=$((i+1)); done"
+    ran = suite.run("--", "sh", "-c", each, ASANCOL=failing)
+    expect_ran(ran, 0, f"no reports; {SHORT} processes, {2 * SHORT} events; all complete")
+    expect(max(starts(folder)) > 2, True, "whether one had many")
+
+
+def check_all_failing(suite: Suite, folder: str) -> None:
+    """If those fail too that each has for itself, it is said of each."""
+    each = f"i=0; while [ $i -lt {SHORT} ]; do {suite.program} sound > /dev/null; i=$((i+1)); done"
+    ran = suite.run("--", "sh", "-c", each, ASANCOL=checker(suite, folder, "kill -9 $$"))
+    expect_ran(ran, 98, f"{SHORT} INCOMPLETE", "its checker was ended by SIGKILL")
+
+
+def check_few_descriptors(suite: Suite, folder: str) -> None:
+    """Those that wait for others hold nobody up, and what a checker can't open it is given alone."""
+    each = f"i=0; while [ $i -lt 100 ]; do {suite.program} sound > /dev/null & i=$((i+1)); done; wait"
+    for most in (24, 32, 64):
+        ran = suite.run_argv(["sh", "-c", f"ulimit -n {most}; exec {RUN} -- sh -c '{each}'"])
+        expect_ran(ran, 0, "no reports; 100 processes, 200 events; all complete")
+    limited = checker(suite, folder, 'if [ "$1" = check ]; then ulimit -n 16; fi')
+    expect_ran(suite.run("--", "sh", "-c", each, ASANCOL=limited), 0, "100 processes, 200 events; all complete")
+
+
+def check_full_disk(suite: Suite, folder: str) -> None:
+    """Where no file may have a byte, streams can't be moved aside."""
+    line = f"i=0; while [ $i -lt 9 ]; do {suite.program} sound > /dev/null; i=$((i+1)); done"
+    together = suite.run_argv(["sh", "-c", f"ulimit -f 0; exec {RUN} -- sh -c '{line}'"])
+    alone = suite.run_argv(["sh", "-c", f"ulimit -f 0; exec {RUN} -- {suite.program} sound"])
+    expect((together.status, "9 INCOMPLETE" in together.err), (alone.status, True), together.err)
+
+
+def tests(suite: Suite) -> None:
+    suite.test("shared checker: each kind of process", check_mixed)
+    for name, line in {
+        "killed": "kill -9 $$",
+        "failing": "exit 3",
+        "half of it": f'{suite.asancol} "$@" | head -n 2; exit 0',
+        "half a line": f'{suite.asancol} "$@" | head -c 60; exit 0',
+        "none is opened": "echo p0 end not-opened; exit 3",
+        "no memory": "echo p0 end no-memory checked 0 reports 0; exit 3",
+    }.items():
+        suite.test(f"shared checker: {name}", check_failing, line)
+    suite.test("shared checker: all are killed", check_all_failing)
+    suite.test("shared checker: few descriptors", check_few_descriptors)
+    suite.test("shared checker: limit on files", check_full_disk)
