@@ -1,8 +1,8 @@
 /* Runs a command, checks each recorded process under it while it runs, and reports at the end.
 
    Each process connects to a socket of this program, the hub. Its connection becomes the standard input of an asancol,
-   its checker: no byte of a trace is read here. common/README.md says what a process sends, and the manual page says
-   what a user sees. */
+   its checker, or is moved into a file for one that several share: no byte of a trace is read here. common/README.md
+   says what a process sends, and the manual page says what a user sees. */
 #define _GNU_SOURCE
 #include <errno.h>
 #include <inttypes.h>

@@ -111,8 +111,14 @@ static bool start(struct process *process, int input)
 {
     if (has_place_for_verdicts(process)) {
         struct strings argv = argv_for(process);
-        const struct start start = {ROLE_CHECKER, process, checkers.program, argv.items, input, process->verdicts, NULL,
-                                    0};
+        const struct start start = {
+            .role = ROLE_CHECKER,
+            .owner = process,
+            .program = checkers.program,
+            .argv = argv.items,
+            .input = input,
+            .output = process->verdicts,
+        };
         process->checker = child_start(&start);
         free(argv.items);
     }

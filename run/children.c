@@ -23,7 +23,7 @@ struct child {
 
 enum { BUCKETS = 4096 };
 static struct child *buckets[BUCKETS];
-static sigset_t mask; /* of what is started */
+static sigset_t mask;  /* of what is started */
 static bool pipes_end; /* SIGPIPE ends what is started, though it is ignored here */
 static char **checkers_environment;
 
@@ -87,8 +87,7 @@ static int become(const struct start *start, char **environment)
                     && give(STDERR_FILENO, STDERR_FILENO);
     for (size_t i = 0; is_ready && i < start->passed_count; i++)
         is_ready = give(start->passed[i], start->passed[i]);
-    if (is_ready && (!pipes_end || sigaction(SIGPIPE, &usual, NULL) == 0)
-        && sigprocmask(SIG_SETMASK, &mask, NULL) == 0)
+    if (is_ready && (!pipes_end || sigaction(SIGPIPE, &usual, NULL) == 0) && sigprocmask(SIG_SETMASK, &mask, NULL) == 0)
         execve(start->program, (char *const *)(uintptr_t)start->argv, environment);
     return errno;
 }

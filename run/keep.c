@@ -122,7 +122,14 @@ int keep_start(struct process *process)
     const char *argv[] = {"tee", "--", process->kept, NULL};
     if (pipe2(ends, O_CLOEXEC) != 0)
         return -1;
-    const struct start start = {ROLE_TEE, process, tee_program, argv, process->connection, ends[1], NULL, 0};
+    const struct start start = {
+        .role = ROLE_TEE,
+        .owner = process,
+        .program = tee_program,
+        .argv = argv,
+        .input = process->connection,
+        .output = ends[1],
+    };
     process->tee = child_start(&start);
     int error = errno;
     close(ends[1]);

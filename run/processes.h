@@ -26,9 +26,9 @@ struct process {
     pid_t peer;                         /* as the system numbers it for us; 0: not known */
     int own_number, parent;             /* as it knows them itself */
     int connection, side_memory, verdicts; /* descriptors; -1: there is none */
-    int aside;                          /* likewise: the whole stream of one that has ended, in place of the connection */
-    bool is_alone;                      /* it is to have a checker of its own, */
-    struct process *next_alone;         /* as has this one, or null */
+    int aside;                             /* likewise: all of its stream, in place of the connection */
+    bool is_alone;                         /* it is to have a checker of its own, */
+    struct process *next_alone;            /* as has this one, or null */
     const struct side *side;            /* or null */
     int side_error;                     /* by which the process could not make that memory, or 0 */
     struct modules modules;             /* until it is done */

@@ -404,8 +404,15 @@ void report_start(void)
     if (program == NULL)
         errno = ENOENT;
     if (program != NULL && socketpair(AF_UNIX, SOCK_SEQPACKET | SOCK_CLOEXEC, 0, ends) == 0) {
-        const struct start start = {ROLE_REPORT, NULL, program, words_of_report(program), ends[1], say_descriptor(),
-                                    report.outputs, report.output_count};
+        const struct start start = {
+            .role = ROLE_REPORT,
+            .program = program,
+            .argv = words_of_report(program),
+            .input = ends[1],
+            .output = say_descriptor(),
+            .passed = report.outputs,
+            .passed_count = report.output_count,
+        };
         report.child = child_start(&start);
         int error = errno;
         close(ends[1]);

@@ -30,7 +30,7 @@ struct batch {
 };
 
 static int ends[2] = {-1, -1}; /* of the pipe by which streams are moved: no byte is read here */
-static struct batch *waiting; /* or null */
+static struct batch *waiting;  /* or null */
 static double first_came, last_came;
 static struct process *alone; /* the first that needs a checker of its own; the others by next_alone */
 static struct process **alone_end = &alone;
@@ -127,15 +127,23 @@ double shared_due(void)
 static bool start(struct batch *batch)
 {
     static char names[MOST_STREAMS][sizeof "/proc/self/fd/" + 10];
-    int files[MOST_STREAMS];
+    static int files[MOST_STREAMS];
     struct strings argv = checkers_words();
     for (size_t i = 0; i < batch->count; i++) {
         files[i] = batch->streams[i]->aside;
         snprintf(names[i], sizeof names[i], "/proc/self/fd/%d", files[i]);
         strings_add(&argv, names[i]);
     }
-    struct start start = {ROLE_SHARED, batch, checkers_program(), argv.items, files[0], batch->verdicts, files,
-                          batch->count};
+    const struct start start = {
+        .role = ROLE_SHARED,
+        .owner = batch,
+        .program = checkers_program(),
+        .argv = argv.items,
+        .input = files[0],
+        .output = batch->verdicts,
+        .passed = files,
+        .passed_count = batch->count,
+    };
     bool is_started = child_start(&start) != 0;
     free(argv.items);
     return is_started;

@@ -30,8 +30,9 @@ def starts(folder: str) -> List[int]:
 def mixed(suite: Suite) -> str:
     """Returns a line of a shell with short processes, and between them others of each kind."""
     program = suite.program
-    others = [f"{program} past 2", f"{program} child", f"{program} execs", f"{program} many 500", f"{program} sleeps 0.5",
-              f"{program} kills_itself", f"{program} crashes", f'python3 -c "{GARBAGE.format("b" + repr("junk" * 9))}"',
+    others = [f"{program} past 2", f"{program} child", f"{program} execs", f"{program} many 500",
+              f"{program} sleeps 0.5", f"{program} kills_itself", f"{program} crashes",
+              f'python3 -c "{GARBAGE.format("b" + repr("junk" * 9))}"',
               f'python3 -c "{GARBAGE.format("b" + repr("ASTR"))}"', f"{TESTS}/segmented.py 1 2b 3e",
               f"{TESTS}/segmented.py 1 2k", suite.unchecked + " sound"]
     short = f"i=0; while [ $i -lt 4 ]; do {program} sound; i=$((i+1)); done"
