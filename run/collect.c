@@ -125,7 +125,7 @@ static void note_unknown_peer(const struct ucred *peer)
     is_noted = true;
     struct process *process = process_add();
     process->is_mark = true;
-    process->peer = peer->pid;
+    process_set_peer(process, peer->pid);
     snprintf(why, sizeof why, "it is of user %u, and had ended before it was seen who has started it",
              (unsigned)peer->uid);
     checker_give_up(process, why);
@@ -135,7 +135,7 @@ static void add_process(int connection, const struct ucred *peer)
 {
     struct process *process = process_add();
     process->connection = connection;
-    process->peer = peer->pid;
+    process_set_peer(process, peer->pid);
     process->cut = run.has_timed_out ? CUT_BY_TIMEOUT : CUT_NONE;
     add_pending(process);
     if (run.cut != 0)
@@ -432,7 +432,7 @@ static void check_file(const char *name)
         must(NULL);
     struct process *process = process_add();
     process->trace = path;
-    process->peer = atoi(name);
+    process_set_peer(process, atoi(name));
     process->cut = run.has_timed_out ? CUT_BY_TIMEOUT : CUT_NONE;
     start_file(process);
 }

@@ -114,12 +114,10 @@ static void look_for_children(void)
 /* Whether the program came that the process has become. */
 static bool has_become(const struct process *process)
 {
-    for (size_t i = 0; i < process_count(); i++) {
-        const struct process *other = process_at(i);
-        bool is_it = process->peer > 0 && other->peer == process->peer;
-        if (is_it && other != process && (is_of_unknown(other) || other->started > process->started))
+    const struct process *other = process->peer > 0 ? process_of_peer(process->peer) : NULL;
+    for (; other != NULL; other = process_next_of_peer(other))
+        if (other != process && (is_of_unknown(other) || other->started > process->started))
             return true;
-    }
     return false;
 }
 

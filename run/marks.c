@@ -64,10 +64,10 @@ static bool read_mark(int folder, const char *name, struct mark *mark)
 /* The process of this number of which only a word came, or null. */
 static struct process *word_of(pid_t number)
 {
-    for (size_t i = 0; i < process_count(); i++)
-        if (process_at(i)->is_mark && process_at(i)->peer == number)
-            return process_at(i);
-    return NULL;
+    struct process *process = process_of_peer(number);
+    while (process != NULL && !process->is_mark)
+        process = process_next_of_peer(process);
+    return process;
 }
 
 /* A process that was not recorded: it may also have connected and sent nothing. */
@@ -75,9 +75,11 @@ static void take_unseen(struct mark *mark)
 {
     struct process *process = word_of(mark->number);
     bool is_known = process != NULL;
-    if (!is_known)
+    if (!is_known) {
         process = process_add();
-    process->peer = process->own_number = mark->number;
+        process_set_peer(process, mark->number);
+    }
+    process->own_number = mark->number;
     process->is_mark = process->has_left_word = true;
     process_set_name(process, mark->program);
     if (!is_known) {

@@ -11,7 +11,11 @@
 /* So much of the name of a program is printed. */
 enum { MAX_NAME_LENGTH = 200 };
 
+/* The system gives at most 64 times as many numbers. */
+enum { PEER_BUCKETS = 65536 };
+
 static struct process **processes;
+static struct process *by_peer[PEER_BUCKETS];
 static size_t count, room, live;
 
 struct process *process_add(void)
@@ -23,7 +27,6 @@ struct process *process_add(void)
     struct process *made = must(calloc(1, sizeof *made));
     made->connection = made->side_memory = made->verdicts = made->aside = -1;
     made->first_seen = made->first_segment = made;
-    made->place = count;
     processes[count++] = made;
     live++;
     return made;
@@ -45,6 +48,32 @@ size_t process_number(struct process *first_seen)
     if (first_seen->number == 0)
         first_seen->number = ++numbered;
     return first_seen->number - 1;
+}
+
+void process_set_peer(struct process *process, pid_t peer)
+{
+    struct process **at = &by_peer[(unsigned)peer % PEER_BUCKETS];
+    process->peer = peer;
+    while (*at != NULL)
+        at = &(*at)->peer_next;
+    *at = process;
+}
+
+static struct process *find_peer(struct process *from, pid_t peer)
+{
+    while (from != NULL && from->peer != peer)
+        from = from->peer_next;
+    return from;
+}
+
+struct process *process_of_peer(pid_t peer)
+{
+    return find_peer(by_peer[(unsigned)peer % PEER_BUCKETS], peer);
+}
+
+struct process *process_next_of_peer(const struct process *process)
+{
+    return find_peer(process->peer_next, process->peer);
 }
 
 bool process_has_hung_up(const struct process *process)

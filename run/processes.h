@@ -21,9 +21,9 @@ enum cut { CUT_NONE, CUT_BY_WAIT, CUT_BY_TIMEOUT };
 
 struct process {
     size_t number; /* of the first seen: process_number has it */
-    size_t place;  /* in the order of connections, from 0 */
     enum stage stage;
     pid_t peer;                         /* as the system numbers it for us; 0: not known */
+    struct process *peer_next;          /* a later one whose number has the same bucket, or null */
     int own_number, parent;             /* as it knows them itself */
     int connection, side_memory, verdicts; /* descriptors; -1: there is none */
     int aside;                             /* likewise: all of its stream, in place of the connection */
@@ -98,6 +98,11 @@ static inline bool process_is_first_seen(const struct process *process)
 
 /* Whether its connection has no other end any more. */
 bool process_has_hung_up(const struct process *process);
+/* Notes its number, once. */
+void process_set_peer(struct process *process, pid_t peer);
+/* The first to connect of those of this number, and the one after another of these; or null. */
+struct process *process_of_peer(pid_t peer);
+struct process *process_next_of_peer(const struct process *process);
 /* How many are not done. */
 size_t process_live_count(void);
 /* Notes that it is done. */

@@ -81,15 +81,15 @@ static bool goes_on(const struct process *first_seen)
 
 bool segments_take_empty(struct process *process)
 {
-    for (size_t i = process->peer != 0 ? process_count() : 0; i > 0; i--) {
-        struct process *other = process_at(i - 1);
-        if (other == process || other->first_seen != other || other->peer != process->peer || !goes_on(other))
-            continue;
-        process->first_seen = other;
-        joined_count++;
-        return true;
-    }
-    return false;
+    struct process *last = NULL, *other = process->peer != 0 ? process_of_peer(process->peer) : NULL;
+    for (; other != NULL; other = process_next_of_peer(other))
+        if (other != process && other->first_seen == other && goes_on(other))
+            last = other;
+    if (last == NULL)
+        return false;
+    process->first_seen = last;
+    joined_count++;
+    return true;
 }
 
 size_t segments_process_count(void)

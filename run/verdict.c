@@ -323,11 +323,10 @@ static bool is_replaced(const struct process *process)
 {
     if (has_other_image(process->peer))
         return true;
-    for (size_t i = process->place + 1; i < process_count(); i++) {
-        const struct process *later = process_at(i);
-        if (later->peer == process->peer && later->parent == process->parent && later->started != process->started)
+    const struct process *later = process;
+    while ((later = process_next_of_peer(later)) != NULL)
+        if (later->parent == process->parent && later->started != process->started)
             return true;
-    }
     return false;
 }
 
