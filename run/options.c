@@ -14,7 +14,6 @@
 #include "common/array.h"
 #include "common/distance.h"
 #include "common/format.h"
-#include "report.h"
 #include "names.h"
 #include "option_table.h"
 #include "preload.h"
@@ -231,7 +230,8 @@ static void pass_descriptor(struct options *options, const char *dashed, const c
     }
     if (asprintf(&path, "/dev/fd/%d", copy) < 0)
         must(NULL);
-    report_keep(copy);
+    if (options->output_count < COUNT(options->outputs))
+        options->outputs[options->output_count++] = copy;
     pass(options, dashed, path);
     options->has_output = true;
 }

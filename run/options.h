@@ -33,7 +33,9 @@ struct options {
     bool has_rules;         /* it has to read a file of what counts */
     bool are_files;         /* the arguments of the command are traces */
     struct strings check;   /* for asancol check */
-    struct strings report;  /* for asancol-report */
+    struct strings report;  /* for asancol-report, */
+    int outputs[16];        /* and descriptors that it gets under their numbers: each output is at most one */
+    size_t output_count;
     char **command;
 };
 

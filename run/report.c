@@ -15,7 +15,6 @@
 #include <unistd.h>
 
 #include "children.h"
-#include "common/array.h"
 #include "hub.h"
 #include "json.h"
 #include "names.h"
@@ -41,8 +40,7 @@ static struct {
     struct message *first, **last;
     size_t held;
     struct strings argv;
-    int outputs[16]; /* descriptors: each output is at most one */
-    size_t output_count;
+    const struct options *options;
     int socket; /* -1: not started, or gone */
     pid_t child;
     bool was_started, had_child, is_broken, has_ended, is_over;
@@ -106,6 +104,7 @@ void report_begin(const struct options *options)
     struct timespec time;
     struct message *message;
     report.last = &report.first;
+    report.options = options;
     report.argv = options->report;
     if (options->quiet)
         strings_add(&report.argv, "--quiet");
@@ -356,12 +355,6 @@ void report_has_ended(int status)
         give_up();
 }
 
-void report_keep(int descriptor)
-{
-    if (report.output_count < COUNT(report.outputs))
-        report.outputs[report.output_count++] = descriptor;
-}
-
 /* Its arguments: what the command line says, and what a run inside this one and one round it have to do with it. */
 static const char *const *words_of_report(const char *program)
 {
@@ -410,8 +403,8 @@ void report_start(void)
             .argv = words_of_report(program),
             .input = ends[1],
             .output = say_descriptor(),
-            .passed = report.outputs,
-            .passed_count = report.output_count,
+            .passed = report.options->outputs,
+            .passed_count = report.options->output_count,
         };
         report.child = child_start(&start);
         int error = errno;

@@ -24,8 +24,6 @@ struct outcome {
 
 enum answer { ANSWER_CLEAN, ANSWER_REPORTS, ANSWER_ARGUMENTS, ANSWER_INCOMPLETE, ANSWER_NOT_WRITTEN, ANSWER_NONE };
 
-/* asancol-report gets this descriptor too, under its number. */
-void report_keep(int descriptor);
 /* The first message: what is run. */
 void report_begin(const struct options *options);
 /* A process is done, or a segment of it. The message takes its descriptors, if there is something to see in them. A

@@ -72,7 +72,7 @@ static bool move(int from, int to, size_t size)
     return true;
 }
 
-/* What could not be moved further is read from the pipe, by a checker of its own. */
+/* If the system has no memory for the pipe's pages, what came so far is read there, by a checker of its own. */
 static void let_pipe_go(struct process *process)
 {
     process->aside = ends[0];
@@ -94,26 +94,34 @@ static void add_waiting(struct process *process)
         shared_start(true);
 }
 
+/* A file that has room for so many bytes, or -1. */
+static int make_file(size_t size)
+{
+    int made = ends[0] >= 0 ? memfd_create("trace", MFD_CLOEXEC) : -1;
+    if (made < 0 || fallocate(made, 0, 0, (off_t)size) == 0)
+        return made;
+    close(made);
+    return -1;
+}
+
 bool shared_take(struct process *process)
 {
-    int size = 0, left = 0;
-    int made = ends[0] >= 0 ? memfd_create("trace", MFD_CLOEXEC) : -1;
-    bool is_known = made >= 0 && ioctl(process->connection, FIONREAD, &size) == 0;
-    bool is_moved = is_known && move(process->connection, ends[1], (size_t)size);
-    if (!is_moved && (!is_known || ioctl(process->connection, FIONREAD, &left) != 0 || left == size)) {
-        if (made >= 0)
-            close(made);
+    int size = 0;
+    if (ioctl(process->connection, FIONREAD, &size) != 0)
         return false;
-    }
+    int made = make_file((size_t)size);
+    if (made < 0)
+        return false;
+    bool is_moved = move(process->connection, ends[1], (size_t)size) && move(ends[0], made, (size_t)size);
     close(process->connection);
     process->connection = -1;
-    if (is_moved && move(ends[0], made, (size_t)size)) {
+    if (is_moved) {
         process->aside = made;
         add_waiting(process);
-        return true;
+    } else {
+        close(made);
+        let_pipe_go(process);
     }
-    close(made);
-    let_pipe_go(process);
     return true;
 }
 

@@ -1,7 +1,8 @@
 """Processes that live shortly have a checker together. What is said of them is what is said with one for each."""
 
 import os
-from typing import Any, List, Tuple
+import re
+from typing import Any, Dict, List, Tuple
 
 from support import RUN, TESTS, Suite, expect, expect_ran, read_packets
 
@@ -39,11 +40,17 @@ def mixed(suite: Suite) -> str:
     return "; ".join(f"{short}; {other}" for other in others) + "; exit 0"
 
 
+def said_of_one(process: Dict[str, Any]) -> List[Any]:
+    """Returns what was said of a process, without what depends on when its parent asks for its end."""
+    names = ("fate", "events", "reports", "findings", "whole", "left_out", "abrupt", "segments")
+    why = re.sub("^ended abruptly, [^:]*", "ended abruptly", process["why"])
+    signal = None if why.startswith("ended abruptly") else process["signal"]
+    return [*(process.get(name) for name in names), process["command"][1:], why, signal]
+
+
 def said_of(processes: List[Any]) -> List[Tuple[Any, ...]]:
     """Returns what was said of each process, in the order of processes: the last word, and all verdicts."""
-    last = {it["n"]: {name: it.get(name) for name in ("fate", "events", "reports", "findings", "whole", "left_out",
-                                                      "signal", "why", "abrupt", "command", "segments")}
-            for it in processes}
+    last = {it["n"]: said_of_one(it) for it in processes}
     verdicts = sorted((it["n"], it.get("segment", 0), it["verdicts"]) for it in processes if "verdicts" in it)
     return [*sorted(last.items(), key=lambda it: it[0]), *verdicts]
 
