@@ -85,11 +85,11 @@ bool held_take(struct process *process)
     return has_ended ? is_shared(process) : add(process);
 }
 
-static void look(struct held *held, bool is_over)
+static void look(struct held *held, bool has_ended)
 {
     struct process *process = held->process;
-    bool has_ended = process_has_hung_up(process), can_wait = checker_can_wait(process);
-    if (can_wait && !has_ended && !is_over)
+    bool can_wait = checker_can_wait(process);
+    if (can_wait && !has_ended && now() < held->until)
         return;
     drop(held);
     if (!can_wait || !has_ended || !is_shared(process))
@@ -103,8 +103,8 @@ void held_look(bool is_ready)
     while (count == EVENTS) {
         count = epoll_wait(events, found, EVENTS, 0);
         for (int i = 0; i < count; i++)
-            look(found[i].data.ptr, false);
+            look(found[i].data.ptr, found[i].events & (EPOLLRDHUP | EPOLLHUP | EPOLLERR));
     }
     while (oldest != NULL && now() >= oldest->until)
-        look(oldest, true);
+        look(oldest, process_has_hung_up(oldest->process));
 }
