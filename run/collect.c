@@ -222,7 +222,8 @@ static void read_signals(void)
     reap();
 }
 
-/* Those that have sent their first bytes wait for others, or have checkers started. */
+/* Those that have sent their first bytes wait for others, or have checkers started. The command itself does not wait:
+   none comes after it. */
 static void start_pending(const struct pollfd *polls)
 {
     size_t kept = 0, count = run.pending_count;
@@ -231,7 +232,7 @@ static void start_pending(const struct pollfd *polls)
         bool is_started = process->stage != STAGE_CONNECTED, is_aside = process->aside >= 0;
         bool has_come = is_aside || polls[i].revents != 0;
         if (!is_started && has_come && now() >= run.short_until && (is_aside || !checker_answers(process))) {
-            is_started = held_take(process) || checker_start(process);
+            is_started = (process->peer != run.command && held_take(process)) || checker_start(process);
             if (!is_started)
                 run.short_until = now() + SHORTAGE;
         }
