@@ -18,9 +18,9 @@
 #include "end_line.h"
 #include "say.h"
 
-/* So many streams one checker takes, which is all that asancol takes. It is started if for so many seconds no other one
-   has come, or the first has waited for so many. */
-enum { MOST_STREAMS = 256 };
+/* So many streams one checker takes, with a thread for each: by then its start costs little beside them. It is started
+   if for so many seconds no other one has come, or the first has waited for so many. */
+enum { MOST_STREAMS = 64 };
 static const double LULL = 0.1, PATIENCE = 1;
 
 struct batch {
