@@ -129,17 +129,17 @@ NoPoisonShares-tail : (e : Event) (since : List Event) (from to : ℕ) → NoPoi
     → NoPoisonShares since from to
 NoPoisonShares-tail e since from to clear r has = clear r (in_tail _ e since has)
 
-NeitherShares-tail : (e : Event) (since : List Event) (from to : ℕ) → NeitherShares (e ∷ since) from to
+pub NeitherShares-tail : (e : Event) (since : List Event) (from to : ℕ) → NeitherShares (e ∷ since) from to
     → NeitherShares since from to
 NeitherShares-tail e since from to clear =
     (NoPoisonShares-tail e since from to clear.0, λ r has. clear.1 r (in_tail _ e since has))
 
 -- ---- inside a live block, which no poison came near
 
-bytes_in_span : (b : Extent) (byte : ℕ) → b.at ≤ byte → byte < b.at + round_up b.size → IsInSpan b byte
+pub bytes_in_span : (b : Extent) (byte : ℕ) → b.at ≤ byte → byte < b.at + round_up b.size → IsInSpan b byte
 bytes_in_span b byte above below = record { from = omega arith; to = omega arith }
 
-rounds_up : (b : Extent) → b.size ≤ round_up b.size
+pub rounds_up : (b : Extent) → b.size ≤ round_up b.size
 rounds_up b = omega arith
 
 -- an admitted malloc's own bytes

@@ -15,6 +15,7 @@ use Rattle.asan_laws.specs.Recording.{Records, shadow_bytes, numbers_in_both, Is
 use Rattle.asan_laws.specs.Recording as recording
 use Rattle.asan_laws.specs.LeanRecording.{RecordsLeanly, lean_numbers, RecordsInSegments, shadow_after}
 use Rattle.asan_laws.specs.LeanRecording as lean
+use Rattle.asan_laws.specs.Runs.{Step, Does, Releases, live_in, held_in, verdicts_in, faults_in, with_quarantine}
 use Rattle.asan_check.proofs.Examples.{access as the_access}
 use Rattle.asan_check.proofs.Examples.{load, store, malloc, free, packed, shade, poison, poison_of, usual}
 
@@ -161,10 +162,10 @@ met_in_the_segment = refl
 -- ---- a lean recording
 
 -- a run with a block that is used after its free, and one with which nothing is wrong
-abbrev lean_run : List Event
+abbrev lean_run : List Step
 lean_run =
-    (store 0x1004 1 refl) ∷ (load 0x2000 1 refl) ∷ (free 0x1000 refl) ∷ (malloc 0x2000 8 refl)
-    ∷ (malloc 0x1000 5 refl) ∷ []
+    Does (store 0x1004 1 refl) ∷ Does (load 0x2000 1 refl) ∷ Does (free 0x1000 refl) ∷ Does (malloc 0x2000 8 refl)
+    ∷ Does (malloc 0x1000 5 refl) ∷ []
 
 -- at the fault the freed block is stated, and then the store is recorded
 abbrev lean_written : List Event
@@ -189,29 +190,57 @@ numbers_of_lean_written = refl
 lean_double_free :
     RecordsLeanly usual shadow_bytes [] []
     ((free 0x1000 refl) ∷ (free 0x1000 refl) ∷ (malloc 0x1000 8 refl) ∷ [])
-    ((free 0x1000 refl) ∷ (free 0x2000 refl) ∷ (free 0x1000 refl) ∷ (malloc 0x2000 8 refl)
-    ∷ (malloc 0x1000 8 refl) ∷ [])
+    (Does (free 0x1000 refl) ∷ Releases 0x2000 ∷ Does (free 0x2000 refl) ∷ Does (free 0x1000 refl)
+    ∷ Does (malloc 0x2000 8 refl) ∷ Does (malloc 0x1000 8 refl) ∷ [])
 lean_double_free =
     lean.block (free 0x1000 refl) _ _ (record { live_there = refl; held_there = λ none. refl })
+    (lean.releases 0x2000 _ _
     (lean.leaves_out_block (free 0x2000 refl) _ _ refl refl
     (lean.states_block (free 0x1000 refl) _ _ refl
     (lean.states_block (malloc 0x1000 8 refl) _ _ refl
     (lean.leaves_out_block (free 0x1000 refl) _ _ refl refl
     (lean.leaves_out_block (malloc 0x2000 8 refl) _ _ refl refl
-    (lean.leaves_out_block (malloc 0x1000 8 refl) _ _ refl refl lean.begins))))))
+    (lean.leaves_out_block (malloc 0x1000 8 refl) _ _ refl refl lean.begins)))))))
 
 -- ---- a block that the run has released and the recording still holds
 
--- this bound holds one block, so the second free releases the first one
+-- two frees, with a quarantine that holds one block: right after the second free the first block is released
+quarantine_of_one :
+    with_quarantine 80 ((free 0x2000 refl) ∷ (malloc 0x2000 8 refl) ∷ (free 0x1000 refl) ∷ (malloc 0x1000 8 refl) ∷ [])
+    ≡ Releases 0x1000 ∷ Does (free 0x2000 refl) ∷ Does (malloc 0x2000 8 refl) ∷ Does (free 0x1000 refl)
+    ∷ Does (malloc 0x1000 8 refl) ∷ []
+quarantine_of_one = refl
+
+-- the newest block may be released first, and the oldest never
+released_in_any_order :
+    held_in (Releases 0x2000 ∷ Does (free 0x2000 refl) ∷ Does (free 0x1000 refl) ∷ Does (malloc 0x2000 8 refl)
+    ∷ Does (malloc 0x1000 8 refl) ∷ []) ≡ (record { at = 0x1000; size = 8 }) ∷ []
+released_in_any_order = refl
+
+-- where nothing is held, and where a block is live, a release is nothing
+released_nothing :
+    live_in (Releases 0x1000 ∷ Does (malloc 0x1000 8 refl) ∷ []) ≡ (record { at = 0x1000; size = 8 }) ∷ []
+released_nothing = refl
+
+-- a release is no event: the load after it is the third one
+release_has_no_number :
+    verdicts_in (Does (load 0x1000 1 refl) ∷ Releases 0x1000 ∷ Does (free 0x1000 refl) ∷ Does (malloc 0x1000 8 refl)
+    ∷ []) ≡ (record {
+      number = 3;
+      fault = fault.Access false 1 0x1000 0x1000 class.HeapBufferOverflow 0xfa;
+    }) ∷ []
+release_has_no_number = refl
+
 abbrev used_after_free : List Event
 used_after_free = (load 0x1000 1 refl) ∷ (free 0x1000 refl) ∷ (malloc 0x1000 8 refl) ∷ []
 
-abbrev used_after_release : List Event
+abbrev used_after_release : List Step
 used_after_release =
-    (load 0x1000 1 refl) ∷ (free 0x2000 refl) ∷ (malloc 0x2000 8 refl) ∷ used_after_free
+    Does (load 0x1000 1 refl) ∷ Releases 0x1000 ∷ Does (free 0x2000 refl) ∷ Does (malloc 0x2000 8 refl)
+    ∷ Does (load 0x1000 1 refl) ∷ Does (free 0x1000 refl) ∷ Does (malloc 0x1000 8 refl) ∷ []
 
 fault_in_the_run :
-    faults_of 80 used_after_release
+    faults_in used_after_release
     ≡ fault.Access false 1 0x1000 0x1000 class.HeapUseAfterFree 0xfd
     ∷ fault.Access false 1 0x1000 0x1000 class.HeapBufferOverflow 0xfa ∷ []
 fault_in_the_run = refl
@@ -231,7 +260,7 @@ in_the_way = refl
 
 -- so a new segment begins, with a block of no bytes whose redzone has the granule
 in_two_segments :
-    RecordsInSegments 80 shadow_bytes (used_after_free ∷ ((load 0x1000 1 refl) ∷ (malloc 0x1000 0 refl) ∷ []) ∷ [])
+    RecordsInSegments 80 shadow_bytes [] (used_after_free ∷ ((load 0x1000 1 refl) ∷ (malloc 0x1000 0 refl) ∷ []) ∷ [])
     used_after_release
 in_two_segments =
     lean.one_more _ [] _ _ _ refl
@@ -243,8 +272,9 @@ in_two_segments =
     (lean.leaves_out_block (malloc 0x1000 8 refl) _ _ refl refl lean.begins))))))
     (lean.access false (the_access 0x1000 1 refl) _ _ (record { here = refl; class_there = λ bad. refl })
     (lean.states_block (malloc 0x1000 0 refl) _ _ refl
+    (lean.releases 0x1000 _ _
     (lean.leaves_out_block (free 0x2000 refl) _ _ refl refl
-    (lean.leaves_out_block (malloc 0x2000 8 refl) _ _ refl refl lean.begins))))
+    (lean.leaves_out_block (malloc 0x2000 8 refl) _ _ refl refl lean.begins)))))
 
 -- ---- a bad free where a stale block stands
 

@@ -75,7 +75,7 @@ module _ (bound : ℕ) where
 
 -- ---- a segment
 
-say_by_class : (one other : Option Fault) → option_map without_class one ≡ option_map without_class other
+pub say_by_class : (one other : Option Fault) → option_map without_class one ≡ option_map without_class other
     → SayAlike IsSameButForClass one other
 say_by_class None None is = tt
 say_by_class None (Some g) is = absurd cc

@@ -62,7 +62,7 @@ module _ (one other : List Mark) (ok : AreMarks one) (also : AreMarks other) whe
       ∙ ap class_of_code there
       ∙ class_shown (state_of other) (deciding_granule (state_of other) at)
 
-  found_same : (is_store : Bool) (a : Access) → lift (state_of one) (a.at / 8) ≡ lift (state_of other) (a.at / 8) →
+  pub found_same : (is_store : Bool) (a : Access) → lift (state_of one) (a.at / 8) ≡ lift (state_of other) (a.at / 8) →
       (IsSome (bad_byte_of (state_of other) a.at a.width)
       → lift (state_of one) (deciding_granule (state_of other) a.at)
       ≡ lift (state_of other) (deciding_granule (state_of other) a.at))
@@ -73,7 +73,7 @@ module _ (one other : List Mark) (ok : AreMarks one) (also : AreMarks other) whe
       ∙ by_bad is_store a _ _ _ _ (bad_byte_of (state_of other) a.at a.width) here
       (λ bad. same_class a.at here (there bad))
 
-  found_as_many : (is_store : Bool) (a : Access)
+  pub found_as_many : (is_store : Bool) (a : Access)
       → front_of (lift (state_of one) (a.at / 8)) ≡ front_of (lift (state_of other) (a.at / 8))
       → option_map without_class (access_fault (state_of one) is_store a)
       ≡ option_map without_class (access_fault (state_of other) is_store a)

@@ -19,6 +19,10 @@ mod Reported
 mod Numbers
 mod Beginning
 mod Faults
+mod RunBlocks
+mod RunBytes
+mod Quarantine
+mod HeldBlocks
 mod LeanReported
 mod LeanNumbers
 mod LeanFaults

@@ -19,26 +19,26 @@ use Rattle.asan_laws.proofs.Blocks.{held_placed}
 
 -- ---- single marks
 
-freed_is_mark : (b : Extent) → IsPlaced b → IsMark (freed_mark b)
+pub freed_is_mark : (b : Extent) → IsPlaced b → IsMark (freed_mark b)
 freed_is_mark b placed =
     let start = placed.0 in
     let end = placed.2 in
     ((omega arith, omega arith), start, omega arith, omega arith, omega arith)
 
-released_is_mark : (b : Extent) → IsPlaced b → IsMark (released_mark b)
+pub released_is_mark : (b : Extent) → IsPlaced b → IsMark (released_mark b)
 released_is_mark b placed =
     let start = placed.0 in
     let above = placed.1 in
     let end = placed.2 in
     ((omega arith, omega arith), omega arith, omega arith, omega arith, end)
 
-kind_is_code : (k : Kind) → IsCode (code_of_kind k)
+pub kind_is_code : (k : Kind) → IsCode (code_of_kind k)
 kind_is_code kind.User = (omega arith, omega arith)
 kind_is_code kind.Stack = (omega arith, omega arith)
 kind_is_code kind.Global = (omega arith, omega arith)
 
 -- a mark for each of the blocks, all of which are placed
-each_is_mark : (mark : Extent → Mark) (blocks : List Extent) (before : List Mark)
+pub each_is_mark : (mark : Extent → Mark) (blocks : List Extent) (before : List Mark)
     → ((b : Extent) → IsPlaced b → IsMark (mark b)) → ((b : Extent) → Contains blocks b → IsPlaced b)
     → AreMarks before → AreMarks (with_marks mark blocks before)
 each_is_mark mark [] before is placed are = are

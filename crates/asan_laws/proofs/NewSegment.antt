@@ -1,11 +1,11 @@
 -- In a new segment each load, store, malloc and free can be recorded: what it looks at can be stated.
 use Rattle.std.proofs.Common.{◌≡◌, ℕ, zero, suc, ◌+◌, ◌-◌, ◌*◌, ◌/◌, ◌%◌, ◌^◌, ◌<◌, ◌≤◌, true, false, cond, leb, ltb}
 use Rattle.std.proofs.Common.{Bool, List, [], ◌∷◌, ◌++◌, refl, sym, ap, subst, ◌∙◌, arith, inl, inr}
-use Rattle.std.specs.Prelude.{min, not, Contains, sum_by, IsTrue}
+use Rattle.std.specs.Prelude.{min, not, filter, Contains, IsTrue}
 use Rattle.std.specs.List.{IsDistinct, list_any}
 use Rattle.std.proofs.lemmas.Bool.{cases_Bool, cases_lt, and_right, false≢true, eq-eqb}
 use Rattle.std.proofs.lemmas.Bool.Decides.{nat_tests}
-use Rattle.std.proofs.lemmas.List.Elements.{Contains-append_cases}
+use Rattle.std.proofs.lemmas.List.Elements.{Contains-append_cases, Contains-push_cases}
 use Rattle.std.proofs.lemmas.Map.Keys.{IsDistinct-cons}
 use Rattle.trace_record.specs.declared.event.Event.{Event}
 use Rattle.trace_record.specs.declared.event.Event.TheVariants as event
@@ -23,30 +23,27 @@ use Rattle.shadow_map.specs.Granules.{block_byte, poisoned_byte}
 use Rattle.shadow_map.proofs.Ends.{lift_past_the_end}
 use Rattle.shadow_map.proofs.Queries.{deciding_shown}
 use Rattle.heap_book.specs.Spans.{Extent, IsPlaced, span_bytes, meets, starts_at}
-use Rattle.heap_book.proofs.Held.{held-within, held-total}
+use Rattle.heap_book.proofs.Held.{held-within}
 use Rattle.asan_units.specs.Units.{is_width}
 use Rattle.asan_check.specs.Codes.{Freed, code_of_kind}
-use Rattle.asan_check.specs.History.{block_of, live, freed, held, admits, marks}
-use Rattle.asan_check.proofs.Blocks.{live_placed}
+use Rattle.asan_check.specs.History.{block_of, live, held, admits}
 use Rattle.asan_check.proofs.Frees as frees
-use Rattle.asan_check.proofs.Members.{in_none, in_head, cons_cases, passes_any}
+use Rattle.asan_check.proofs.Members.{in_none, in_head, cons_cases, passes_any, from_filtered}
 use Rattle.asan_check.proofs.Steps.{live_malloc, none_apart}
 use Rattle.asan_laws.specs.Laws.{access_event}
 use Rattle.asan_laws.specs.Recording.{shadow_bytes}
 use Rattle.asan_laws.specs.Snapshots.{lays_none, lays_live, lays_held, is_shade}
 use Rattle.asan_laws.specs.LeanRecording.{RecordsLeanly, begins, block, access, states_block, states, shadow_after}
-use Rattle.asan_laws.specs.LeanRecording.{HaveSameStart}
-use Rattle.asan_laws.proofs.Blocks.{held_placed}
-use Rattle.asan_laws.proofs.Histories.{live_found, held_found}
+use Rattle.asan_laws.specs.LeanRecording.{HaveSameStart, EachHeldFits}
+use Rattle.asan_laws.specs.Runs.{Step, Does, Releases, live_in, held_in, admits_in, marks_in, shadow_in}
 use Rattle.asan_laws.proofs.Known.{IsGiven, given_count, given_redzone, given_poison, given_freed, given}
-use Rattle.asan_laws.proofs.Marks.{are_marks}
 use Rattle.asan_laws.proofs.Members.{any_passes}
+use Rattle.asan_laws.proofs.RunBlocks.{live_malloc_in, live_refused_in, live_placed_in, held_placed_in, are_marks_in}
 use Rattle.asan_laws.proofs.Snapshots.{stands, may_be}
 use Rattle.asan_laws.proofs.Shown.{shadow_malloc, shadow_free, shadow_shade, poison_whole, poison_part, unpoison_whole}
-use Rattle.asan_laws.proofs.StatedBlocks.{part_of_sum}
 
 -- some events that may be put in since nothing was recorded, after which a granule has a shadow byte
-record CanBeStated (bound : ℕ) (run : List Event) (granule shadow : ℕ) : Type 0 where
+record CanBeStated (bound : ℕ) (run : List Step) (granule shadow : ℕ) : Type 0 where
   stated : List Event
   way : RecordsLeanly bound shadow_bytes [] run stated run
   is : shadow_after bound stated granule ≡ shadow
@@ -135,7 +132,7 @@ redzone_number at granule s =
     let last : (ltb granule (at / 8 + 0 + 4)) ≡ true = grind (arith, nat_tests) in
     rw (first, last) (grind (arith, nat_tests))
 
-module _ (bound : ℕ) (run : List Event) (granule : ℕ) (within : granule < 2 ^ 44) where
+module _ (bound : ℕ) (run : List Step) (granule : ℕ) (within : granule < 2 ^ 44) where
   by_nothing : CanBeStated bound run granule 0
   by_nothing = record { stated = []; way = begins; is = refl }
 
@@ -213,15 +210,15 @@ module _ (bound : ℕ) (run : List Event) (granule : ℕ) (within : granule < 2 
   by_given shadow (given_freed fits low high) = by_freed fits low high
 
 -- past the last address too: nothing is ever marked there
-any_granule : (bound : ℕ) (run : List Event) (granule : ℕ)
-    → CanBeStated bound run granule (shadow_after bound run granule)
-any_granule bound run granule =
+any_granule : (bound : ℕ) (run : List Step) → EachHeldFits bound run → (granule : ℕ)
+    → CanBeStated bound run granule (shadow_in run granule)
+any_granule bound run fits granule =
     elim (cases_lt granule (2 ^ 44)) [
-      | inl within ↦ by_given bound run granule within (shadow_after bound run granule) (given bound run granule)
+      | inl within ↦ by_given bound run granule within (shadow_in run granule) (given bound run fits granule)
       | inr past ↦ record {
         stated = [];
         way = begins;
-        is = lift_past_the_end (marks bound run) (are_marks bound run) granule past;
+        is = lift_past_the_end (marks_in run) (are_marks_in run) granule past;
       }
     ]
 
@@ -231,7 +228,7 @@ any_granule bound run granule =
 next_poisoned : (code shadow : ℕ) → poisoned_byte code shadow 0 0 ≡ shadow
 next_poisoned code shadow = grind (arith, nat_tests)
 
-module _ (bound : ℕ) (run : List Event) (granule : ℕ) (within : granule < 2 ^ 44) where
+module _ (bound : ℕ) (run : List Step) (granule : ℕ) (within : granule < 2 ^ 44) where
   -- what can be stated of a granule and of the next one
   record CanBothBeStated (shadow next : ℕ) : Type 0 where
     stated : List Event
@@ -285,20 +282,20 @@ count_of bound granule shadow (given_poison kind.Global) off = absurd (false≢t
 count_of bound granule shadow (given_freed fits low high) off = absurd (false≢true (sym off))
 
 -- some events that may be put in since nothing was recorded, after which an event may be recorded
-record CanBeRecorded (bound : ℕ) (run : List Event) (e : Event) : Type 0 where
+record CanBeRecorded (bound : ℕ) (run : List Step) (e : Event) : Type 0 where
   pub stated : List Event
-  pub way : RecordsLeanly bound shadow_bytes [] run (e ∷ stated) (e ∷ run)
+  pub way : RecordsLeanly bound shadow_bytes [] run (e ∷ stated) (Does e ∷ run)
 
-module _ (bound : ℕ) (run : List Event) (is_store : Bool) (a : Access) where
-  decides : deciding_granule (state_of (marks bound run)) a.at
-      ≡ cond (is_negative (shadow_after bound run (a.at / 8))) (a.at / 8) (a.at / 8 + 1)
-  decides = deciding_shown (marks bound run) (are_marks bound run) a.at (shadow_after bound run (a.at / 8)) refl
+module _ (bound : ℕ) (run : List Step) (fits : EachHeldFits bound run) (is_store : Bool) (a : Access) where
+  decides : deciding_granule (state_of (marks_in run)) a.at
+      ≡ cond (is_negative (shadow_in run (a.at / 8))) (a.at / 8) (a.at / 8 + 1)
+  decides = deciding_shown (marks_in run) (are_marks_in run) a.at (shadow_in run (a.at / 8)) refl
 
   -- the granule of the first byte says the class
-  own_says : is_negative (shadow_after bound run (a.at / 8)) ≡ true
+  own_says : is_negative (shadow_in run (a.at / 8)) ≡ true
       → CanBeRecorded bound run (access_event is_store a)
   own_says negative =
-      let can = any_granule bound run (a.at / 8) in record {
+      let can = any_granule bound run fits (a.at / 8) in record {
         stated = can.stated;
         way = access is_store a can.stated run (record {
           here = can.is;
@@ -307,14 +304,14 @@ module _ (bound : ℕ) (run : List Event) (is_store : Bool) (a : Access) where
       }
 
   -- the next one does
-  next_says : is_negative (shadow_after bound run (a.at / 8)) ≡ false
+  next_says : is_negative (shadow_in run (a.at / 8)) ≡ false
       → CanBeRecorded bound run (access_event is_store a)
   next_says off =
       let range = a.in_range in
       let within : a.at / 8 < 2 ^ 44 = in_addresses a.at a.width range (some_byte a.width a.known_width) in
-      let less = count_of bound (a.at / 8) (shadow_after bound run (a.at / 8)) (given bound run (a.at / 8)) off in
-      let can = both_given bound run (a.at / 8) within (shadow_after bound run (a.at / 8))
-      (shadow_after bound run (a.at / 8 + 1)) less (any_granule bound run (a.at / 8 + 1)) in
+      let less = count_of bound (a.at / 8) (shadow_in run (a.at / 8)) (given bound run fits (a.at / 8)) off in
+      let can = both_given bound run (a.at / 8) within (shadow_in run (a.at / 8))
+      (shadow_in run (a.at / 8 + 1)) less (any_granule bound run fits (a.at / 8 + 1)) in
       record {
         stated = can.stated;
         way = access is_store a can.stated run (record {
@@ -331,7 +328,7 @@ module _ (bound : ℕ) (run : List Event) (is_store : Bool) (a : Access) where
 
   any_access : CanBeRecorded bound run (access_event is_store a)
   any_access =
-      elim (cases_Bool (is_negative (shadow_after bound run (a.at / 8)))) [
+      elim (cases_Bool (is_negative (shadow_in run (a.at / 8)))) [
         | inl negative ↦ own_says negative
         | inr off ↦ next_says off
       ]
@@ -339,25 +336,42 @@ module _ (bound : ℕ) (run : List Event) (is_store : Bool) (a : Access) where
 -- ---- a block
 
 -- what a history lays out of one block alone, which was asked for in the run
-record CanBeLaidOut (bound : ℕ) (run : List Event) (lives helds : List Extent) : Type 0 where
+record CanBeLaidOut (bound : ℕ) (run : List Step) (lives helds : List Extent) : Type 0 where
   stated : List Event
   way : RecordsLeanly bound shadow_bytes [] run stated run
   lives_are : live bound stated ≡ lives
   helds_are : held bound stated ≡ helds
 
-region_of_live : (bound : ℕ) (past : List Event) (b : Extent) → Contains (live bound past) b
-    → (r : Region) × (block_of r ≡ b)
-region_of_live bound past b has = let found = live_found bound past b has in (found.malloc, found.asked)
+region_of_live_in : (run : List Step) (b : Extent) → Contains (live_in run) b → (r : Region) × (block_of r ≡ b)
+region_of_live_in [] b has = absurd (in_none b has)
+region_of_live_in (Does (event.Malloc r) ∷ run) b has =
+    elim (cases_Bool (admits_in run (block_of r))) [
+      | inl ok ↦ elim (Contains-push_cases (live_in run) (block_of r) b (rw (live_malloc_in r run ok) at has)) [
+        | inl old ↦ region_of_live_in run b old
+        | inr new ↦ (r, new)
+      ]
+      | inr refused ↦ region_of_live_in run b (rw (live_refused_in r run refused) at has)
+    ]
+region_of_live_in (Does (event.Free p) ∷ run) b has =
+    region_of_live_in run b (from_filtered (λ x. not (starts_at p.at x)) (live_in run) b has).0
+region_of_live_in (Does e ∷ run) b has = region_of_live_in run b has
+region_of_live_in (Releases at ∷ run) b has = region_of_live_in run b has
 
-region_of_held : (bound : ℕ) (past : List Event) (b : Extent) → Contains (held bound past) b
-    → (r : Region) × (block_of r ≡ b)
-region_of_held bound past b has =
-    let found = held_found bound past b has in region_of_live bound found.before b found.was_live
+region_of_held_in : (run : List Step) (b : Extent) → Contains (held_in run) b → (r : Region) × (block_of r ≡ b)
+region_of_held_in [] b has = absurd (in_none b has)
+region_of_held_in (Does (event.Free p) ∷ run) b has =
+    elim (Contains-append_cases (held_in run) (filter (starts_at p.at) (live_in run)) b has) [
+      | inl old ↦ region_of_held_in run b old
+      | inr now ↦ region_of_live_in run b (from_filtered (starts_at p.at) (live_in run) b now).0
+    ]
+region_of_held_in (Does e ∷ run) b has = region_of_held_in run b has
+region_of_held_in (Releases at ∷ run) b has =
+    region_of_held_in run b (from_filtered (λ x. not (starts_at at x)) (held_in run) b has).0
 
 alone : (b : Extent) → IsDistinct meets (b ∷ [])
 alone b = IsDistinct-cons meets b [] tt none_apart
 
-module _ (bound : ℕ) (run : List Event) (r : Region) (placed : IsPlaced (block_of r)) where
+module _ (bound : ℕ) (run : List Step) (r : Region) (placed : IsPlaced (block_of r)) where
   first_ok : admits bound [] (block_of r) ≡ true
   first_ok = may_be [] (block_of r) placed refl
 
@@ -401,49 +415,45 @@ module _ (bound : ℕ) (run : List Event) (r : Region) (placed : IsPlaced (block
         helds_are = stand.helds_are;
       }
 
-module _ (bound : ℕ) (run : List Event) (b : Extent) where
-  live_laid : Contains (live bound run) b → CanBeLaidOut bound run (b ∷ []) []
+module _ (bound : ℕ) (run : List Step) (fits : EachHeldFits bound run) (b : Extent) where
+  live_laid : Contains (live_in run) b → CanBeLaidOut bound run (b ∷ []) []
   live_laid has =
-      let found = region_of_live bound run b has in
+      let found = region_of_live_in run b has in
       subst (λ x. CanBeLaidOut bound run (x ∷ []) []) found.1
-      (laid_live bound run found.0 (subst IsPlaced (sym found.1) (live_placed bound run b has)))
+      (laid_live bound run found.0 (subst IsPlaced (sym found.1) (live_placed_in run b has)))
 
-  held_laid : Contains (held bound run) b → CanBeLaidOut bound run [] (b ∷ [])
+  held_laid : Contains (held_in run) b → CanBeLaidOut bound run [] (b ∷ [])
   held_laid has =
-      let found = region_of_held bound run b has in
-      let placed = held_placed bound run b has in
+      let found = region_of_held_in run b has in
+      let placed = held_placed_in run b has in
       let end = placed.2 in
       let p : Place = record { at = b.at; in_range = omega arith } in
-      let fits : span_bytes b ≤ bound =
-      (let all : sum_by span_bytes (held bound run) ≤ bound = held-total bound (freed bound run) in
-      let part = part_of_sum (held bound run) b has in
-      omega arith) in
       subst (λ x. CanBeLaidOut bound run [] (x ∷ [])) found.1
       (laid_held bound run found.0 (subst IsPlaced (sym found.1) placed) p (ap (λ x. x.at) (sym found.1))
-      (subst (λ x. span_bytes x ≤ bound) (sym found.1) fits))
+      (subst (λ x. span_bytes x ≤ bound) (sym found.1) (fits b has)))
 
 -- ---- a free
 
-module _ (bound : ℕ) (run : List Event) (p : Place) where
+module _ (bound : ℕ) (run : List Step) (fits : EachHeldFits bound run) (p : Place) where
   after_stated : (stated : List Event) → RecordsLeanly bound shadow_bytes [] run stated run
       → HaveSameStart bound stated run p.at → CanBeRecorded bound run (event.Free p)
   after_stated stated way same =
       record { stated = stated; way = block (event.Free p) stated run same way }
 
-  free_of_live : list_any (starts_at p.at) (live bound run) ≡ true → CanBeRecorded bound run (event.Free p)
+  free_of_live : list_any (starts_at p.at) (live_in run) ≡ true → CanBeRecorded bound run (event.Free p)
   free_of_live any =
-      let found = any_passes (starts_at p.at) (live bound run) any in
-      let can = live_laid bound run found.0 found.1 in
+      let found = any_passes (starts_at p.at) (live_in run) any in
+      let can = live_laid bound run fits found.0 found.1 in
       after_stated can.stated can.way (record {
         live_there = rw (can.lives_are, found.2, any) refl;
         held_there = λ none. absurd (false≢true (sym none ∙ any));
       })
 
-  free_of_held : list_any (starts_at p.at) (live bound run) ≡ false → list_any (starts_at p.at) (held bound run) ≡ true
+  free_of_held : list_any (starts_at p.at) (live_in run) ≡ false → list_any (starts_at p.at) (held_in run) ≡ true
       → CanBeRecorded bound run (event.Free p)
   free_of_held none any =
-      let found = any_passes (starts_at p.at) (held bound run) any in
-      let can = held_laid bound run found.0 found.1 in
+      let found = any_passes (starts_at p.at) (held_in run) any in
+      let can = held_laid bound run fits found.0 found.1 in
       after_stated can.stated can.way (record {
         live_there = rw (can.lives_are, none) refl;
         held_there = λ off. rw (can.helds_are, found.2, any) refl;
@@ -451,9 +461,9 @@ module _ (bound : ℕ) (run : List Event) (p : Place) where
 
   any_free : CanBeRecorded bound run (event.Free p)
   any_free =
-      elim (cases_Bool (list_any (starts_at p.at) (live bound run))) [
+      elim (cases_Bool (list_any (starts_at p.at) (live_in run))) [
         | inl any ↦ free_of_live any
-        | inr none ↦ elim (cases_Bool (list_any (starts_at p.at) (held bound run))) [
+        | inr none ↦ elim (cases_Bool (list_any (starts_at p.at) (held_in run))) [
           | inl any ↦ free_of_held none any
           | inr neither ↦ after_stated [] begins (record {
             live_there = sym none;
@@ -464,7 +474,7 @@ module _ (bound : ℕ) (run : List Event) (p : Place) where
 
 -- ---- a malloc
 
-module _ (bound : ℕ) (run : List Event) (r : Region) where
+module _ (bound : ℕ) (run : List Step) (fits : EachHeldFits bound run) (r : Region) where
   refused_where_met : (past : List Event) → list_any (meets (block_of r)) (live bound past ++ held bound past) ≡ true
       → admits bound past (block_of r) ≡ false
   refused_where_met past met = and_right _ _ (ap not met)
@@ -473,18 +483,18 @@ module _ (bound : ℕ) (run : List Event) (r : Region) where
       → meets (block_of r) b ≡ true → admits bound past (block_of r) ≡ false
   met_alone past b only met = refused_where_met past (rw (only, met) refl)
 
-  in_the_way : list_any (meets (block_of r)) (live bound run ++ held bound run) ≡ true
+  in_the_way : list_any (meets (block_of r)) (live_in run ++ held_in run) ≡ true
       → CanBeRecorded bound run (event.Malloc r)
   in_the_way any =
-      let found = any_passes (meets (block_of r)) (live bound run ++ held bound run) any in
-      let refused = refused_where_met run any in
-      elim (Contains-append_cases (live bound run) (held bound run) found.0 found.1) [
-        | inl is_live ↦ let can = live_laid bound run found.0 is_live in record {
+      let found = any_passes (meets (block_of r)) (live_in run ++ held_in run) any in
+      let refused : admits_in run (block_of r) ≡ false = and_right _ _ (ap not any) in
+      elim (Contains-append_cases (live_in run) (held_in run) found.0 found.1) [
+        | inl is_live ↦ let can = live_laid bound run fits found.0 is_live in record {
           stated = can.stated;
           way = block (event.Malloc r) can.stated run
               (met_alone can.stated found.0 (rw (can.lives_are, can.helds_are) refl) found.2 ∙ sym refused) can.way;
         }
-        | inr is_held ↦ let can = held_laid bound run found.0 is_held in record {
+        | inr is_held ↦ let can = held_laid bound run fits found.0 is_held in record {
           stated = can.stated;
           way = block (event.Malloc r) can.stated run
               (met_alone can.stated found.0 (rw (can.lives_are, can.helds_are) refl) found.2 ∙ sym refused) can.way;
@@ -493,7 +503,7 @@ module _ (bound : ℕ) (run : List Event) (r : Region) where
 
   any_malloc : CanBeRecorded bound run (event.Malloc r)
   any_malloc =
-      elim (cases_Bool (list_any (meets (block_of r)) (live bound run ++ held bound run))) [
+      elim (cases_Bool (list_any (meets (block_of r)) (live_in run ++ held_in run))) [
         | inl any ↦ in_the_way any
         | inr none ↦ record {
           stated = [];
@@ -503,13 +513,14 @@ module _ (bound : ℕ) (run : List Event) (r : Region) where
 
 -- ---- any event but a poison and an unpoison
 
-any_event : (bound : ℕ) (run : List Event) (e : Event) → is_shade e ≡ false → CanBeRecorded bound run e
-any_event bound run (event.Load a) is = any_access bound run false a
-any_event bound run (event.Store a) is = any_access bound run true a
-any_event bound run (event.Malloc r) is = any_malloc bound run r
-any_event bound run (event.Free p) is = any_free bound run p
-any_event bound run e is = absurd (false≢true (sym is))
+module _ (bound : ℕ) (run : List Step) (fits : EachHeldFits bound run) where
+  any_event : (e : Event) → is_shade e ≡ false → CanBeRecorded bound run e
+  any_event (event.Load a) is = any_access bound run fits false a
+  any_event (event.Store a) is = any_access bound run fits true a
+  any_event (event.Malloc r) is = any_malloc bound run fits r
+  any_event (event.Free p) is = any_free bound run fits p
+  any_event e is = absurd (false≢true (sym is))
 
-pub can_be_recorded : (bound : ℕ) (run : List Event) (e : Event) → is_shade e ≡ false →
-    (stated : List Event) × RecordsLeanly bound shadow_bytes [] run (e ∷ stated) (e ∷ run)
-can_be_recorded bound run e is = let can = any_event bound run e is in (can.stated, can.way)
+  pub can_be_recorded : (e : Event) → is_shade e ≡ false →
+      (stated : List Event) × RecordsLeanly bound shadow_bytes [] run (e ∷ stated) (Does e ∷ run)
+  can_be_recorded e is = let can = any_event e is in (can.stated, can.way)

@@ -20,6 +20,7 @@ use Rattle.asan_check.specs.Verdicts.{fault_of, verdict, verdicts_of}
 use Rattle.asan_laws.specs.Laws.{access_event}
 use Rattle.asan_laws.specs.Recording.{HaveBlocksBut, Records, begins, block, access, leaves_out_access, says_nothing}
 use Rattle.asan_laws.specs.Recording.{leaves_out_shade, states, numbers_in_both, is_of_block, AreReportedAlike}
+use Rattle.asan_laws.specs.Recording.{AddTheSame}
 use Rattle.asan_laws.specs.Recording.{IsReportedOfOne, NoMallocMeets, Detail, Finds}
 use Rattle.asan_laws.proofs.SameBlocks.{HaveBlocksStill, SayAlike, say_the_same, malloc_same, malloc_step, free_step}
 use Rattle.asan_laws.proofs.SameBlocks.{free_says, on_left, on_right, is_other, nothing_done, access_is_none}
@@ -42,21 +43,55 @@ module _ {A B : Type 0} where
   zip_weaker R S weaker (x ∷ xs) [] h = absurd h
   zip_weaker R S weaker (x ∷ xs) (y ∷ ys) h = (weaker x y h.0, zip_weaker R S weaker xs ys h.1)
 
--- the verdicts on one event
-one_event : (Same : Fault → Fault → Type 0) (numbers : List (ℕ × ℕ)) (bound : ℕ) (recorded run : List Event) (e : Event)
-    → Contains numbers (length recorded + 1, length run + 1)
-    → SayAlike Same (fault_of bound recorded e) (fault_of bound run e) →
-    AllZip (IsReportedOfOne numbers Same) (option_to_list (verdict bound recorded e))
-    (option_to_list (verdict bound run e))
-one_event Same numbers bound recorded run e has = go (fault_of bound recorded e) (fault_of bound run e)
-  where
-    go : (f g : Option Fault) → SayAlike Same f g → AllZip (IsReportedOfOne numbers Same)
-        (option_to_list (option_map (λ f. let r : Report = record { number = length recorded + 1; fault = f } in r) f))
-        (option_to_list (option_map (λ f. let r : Report = record { number = length run + 1; fault = f } in r) g))
-    go None None h = tt
-    go None (Some g) h = absurd h
-    go (Some f) None h = absurd h
-    go (Some f) (Some g) h = ((has, h.0), tt)
+-- what is said of one event, with its number in each
+pub both_say : (Same : Fault → Fault → Type 0) (numbers : List (ℕ × ℕ)) (m n : ℕ) → Contains numbers (m, n)
+    → (f g : Option Fault) → SayAlike Same f g → AllZip (IsReportedOfOne numbers Same)
+    (option_to_list (option_map (λ f. let r : Report = record { number = m; fault = f } in r) f))
+    (option_to_list (option_map (λ f. let r : Report = record { number = n; fault = f } in r) g))
+both_say Same numbers m n has None None h = tt
+both_say Same numbers m n has None (Some g) h = absurd h
+both_say Same numbers m n has (Some f) None h = absurd h
+both_say Same numbers m n has (Some f) (Some g) h = ((has, h.0), tt)
+
+-- nothing is said of an event that is good
+pub none_said : (number : ℕ) (reports : List Report) (f : Option Fault) → f ≡ None →
+    reports ++ option_to_list (option_map (λ f. let r : Report = record { number = number; fault = f } in r) f)
+    ≡ reports
+none_said number reports f good =
+    ap (λ found. reports ++ option_to_list (option_map
+    (λ g. let r : Report = record { number = number; fault = g } in r) found)) good
+    ∙ append-nil reports
+
+-- ---- reports that are added
+
+module _ (Same : Fault → Fault → Type 0) (first recorded past run : List Report) (numbers : List (ℕ × ℕ))
+    (alike : AddTheSame numbers Same first recorded past run) where
+  -- to both
+  pub added_to_both : (last : ℕ × ℕ) (one other : List Report)
+      → AllZip (IsReportedOfOne (numbers ++ last ∷ []) Same) one other
+      → AddTheSame (numbers ++ last ∷ []) Same first (recorded ++ one) past (run ++ other)
+  added_to_both last one other both =
+      let all = numbers ++ last ∷ [] in record {
+        of_recording = alike.of_recording ++ one;
+        of_run = alike.of_run ++ other;
+        recording_adds = ap (λ rs. rs ++ one) alike.recording_adds ∙ append_assoc first alike.of_recording one;
+        run_adds = ap (λ rs. rs ++ other) alike.run_adds ∙ append_assoc past alike.of_run other;
+        one_by_one = zip_append (IsReportedOfOne all Same) alike.of_recording one alike.of_run other
+            (zip_weaker (IsReportedOfOne numbers Same) (IsReportedOfOne all Same)
+            (λ r s h. (Contains-append_left numbers (last ∷ []) (r.number, s.number) h.0, h.1)) alike.of_recording
+            alike.of_run alike.one_by_one) both;
+      }
+
+  -- none
+  pub none_added : (recorded_now run_now : List Report) → recorded_now ≡ recorded → run_now ≡ run
+      → AddTheSame numbers Same first recorded_now past run_now
+  none_added recorded_now run_now same also = record {
+    of_recording = alike.of_recording;
+    of_run = alike.of_run;
+    recording_adds = same ∙ alike.recording_adds;
+    run_adds = also ∙ alike.run_adds;
+    one_by_one = alike.one_by_one;
+  }
 
 -- ---- one more event
 
@@ -67,46 +102,22 @@ module _ (bound : ℕ) (Same : Fault → Fault → Type 0) (first past recorded 
       (e ∷ run)
   in_both says =
       let last : ℕ × ℕ = (length recorded + 1, length run + 1) in
-      let all = numbers ++ last ∷ [] in
-      let one = option_to_list (verdict bound recorded e) in
-      let other = option_to_list (verdict bound run e) in record {
-        of_recording = alike.of_recording ++ one;
-        of_run = alike.of_run ++ other;
-        recording_adds = ap (λ rs. rs ++ one) alike.recording_adds
-            ∙ append_assoc (verdicts_of bound first) alike.of_recording one;
-        run_adds = ap (λ rs. rs ++ other) alike.run_adds ∙ append_assoc (verdicts_of bound past) alike.of_run other;
-        one_by_one = zip_append (IsReportedOfOne all Same) alike.of_recording one alike.of_run other
-            (zip_weaker (IsReportedOfOne numbers Same) (IsReportedOfOne all Same)
-            (λ r s h. (Contains-append_left numbers (last ∷ []) (r.number, s.number) h.0, h.1)) alike.of_recording
-            alike.of_run alike.one_by_one)
-            (one_event Same all bound recorded run e (Contains-push numbers last) says);
-      }
-
-  good_adds : (history : List Event) → fault_of bound history e ≡ None
-      → verdicts_of bound (e ∷ history) ≡ verdicts_of bound history
-  good_adds history good =
-      ap (λ f. verdicts_of bound history ++ option_to_list
-      (option_map (λ g. let r : Report = record { number = length history + 1; fault = g } in r) f)) good
-      ∙ append-nil (verdicts_of bound history)
+      added_to_both Same (verdicts_of bound first) (verdicts_of bound recorded) (verdicts_of bound past)
+      (verdicts_of bound run) numbers alike last (option_to_list (verdict bound recorded e))
+      (option_to_list (verdict bound run e))
+      (both_say Same (numbers ++ last ∷ []) (length recorded + 1) (length run + 1) (Contains-push numbers last)
+      (fault_of bound recorded e) (fault_of bound run e) says)
 
   pub in_run : fault_of bound run e ≡ None → AreReportedAlike bound numbers Same first past recorded (e ∷ run)
-  in_run good = record {
-    of_recording = alike.of_recording;
-    of_run = alike.of_run;
-    recording_adds = alike.recording_adds;
-    run_adds = good_adds run good ∙ alike.run_adds;
-    one_by_one = alike.one_by_one;
-  }
+  in_run good = none_added Same (verdicts_of bound first) (verdicts_of bound recorded) (verdicts_of bound past)
+      (verdicts_of bound run) numbers alike (verdicts_of bound recorded) (verdicts_of bound (e ∷ run)) refl
+      (none_said (length run + 1) (verdicts_of bound run) (fault_of bound run e) good)
 
   pub in_recording : fault_of bound recorded e ≡ None
       → AreReportedAlike bound numbers Same first past (e ∷ recorded) run
-  in_recording good = record {
-    of_recording = alike.of_recording;
-    of_run = alike.of_run;
-    recording_adds = good_adds recorded good ∙ alike.recording_adds;
-    run_adds = alike.run_adds;
-    one_by_one = alike.one_by_one;
-  }
+  in_recording good = none_added Same (verdicts_of bound first) (verdicts_of bound recorded) (verdicts_of bound past)
+      (verdicts_of bound run) numbers alike (verdicts_of bound (e ∷ recorded)) (verdicts_of bound run)
+      (none_said (length recorded + 1) (verdicts_of bound recorded) (fault_of bound recorded e) good) refl
 
 -- ---- the whole
 

@@ -26,10 +26,12 @@ use Rattle.asan_check.specs.Verdicts.{is_access}
 use Rattle.asan_check.proofs.Blocks.{live_placed}
 use Rattle.asan_check.proofs.Frees as frees
 use Rattle.asan_laws.specs.Laws.{since_malloc, since_free, NoneCovers, IsPoisonedSince}
-use Rattle.asan_laws.specs.Recording.{FindsTheSame}
+use Rattle.asan_laws.specs.Recording.{shadow_bytes}
+use Rattle.asan_laws.specs.Runs.{Step, marks_in, shadow_in}
 use Rattle.asan_laws.specs.Snapshots.{is_shade, NoneShares, LiesInSpan, LiesInBytes}
 use Rattle.asan_laws.specs.LeanRecording.{shadow_after, filled_byte, freed_byte, released_byte, shaded_byte, IsShown}
 use Rattle.asan_laws.specs.LeanRecording.{in_live, in_held, around_held, in_poison, untouched, IsShownForAccess}
+use Rattle.asan_laws.specs.LeanRecording.{FindsInRun}
 use Rattle.asan_laws.proofs.Blocks.{held_placed}
 use Rattle.asan_laws.proofs.Bytes.{live_span, held_bytes, held_redzone, own_byte}
 use Rattle.asan_laws.proofs.Marks.{are_marks}
@@ -224,27 +226,27 @@ module _ (bound : ℕ) (past : List Event) (granule : ℕ) where
 
 -- ---- in a recording and in its run
 
-module _ (bound : ℕ) (recorded run : List Event) where
-  pub both_shown : (granule shadow : ℕ) → IsShown bound recorded granule shadow → IsShown bound run granule shadow
-      → shadow_after bound recorded granule ≡ shadow_after bound run granule
-  both_shown granule shadow one other =
-      byte_shown bound recorded granule shadow one ∙ sym (byte_shown bound run granule shadow other)
+pub both_shown : (bound : ℕ) (recorded run : List Event) (granule shadow : ℕ) → IsShown bound recorded granule shadow
+    → IsShown bound run granule shadow → shadow_after bound recorded granule ≡ shadow_after bound run granule
+both_shown bound recorded run granule shadow one other =
+    byte_shown bound recorded granule shadow one ∙ sym (byte_shown bound run granule shadow other)
 
-  pub found_shown : (a : Access) → IsShownForAccess bound recorded run a → FindsTheSame bound recorded run a
-  found_shown a shown = record {
-    here = here;
-    class_there = λ bad. elim shown.class_there [
-      | inl none ↦ rw none here
-      | inr next ↦ go (has_none_addressable (state_of (marks bound run)) (a.at / 8))
-          (byte_shown bound recorded (a.at / 8 + 1) _ next)
-    ];
-  }
-    where
-      here : shadow_after bound recorded (a.at / 8) ≡ shadow_after bound run (a.at / 8)
-      here = byte_shown bound recorded (a.at / 8) _ shown.here
+pub found_shown : (bound : ℕ) (recorded : List Event) (run : List Step) (a : Access)
+    → IsShownForAccess bound recorded run a → FindsInRun bound shadow_bytes recorded run a
+found_shown bound recorded run a shown = record {
+  here = here;
+  class_there = λ bad. elim shown.class_there [
+    | inl none ↦ rw none here
+    | inr next ↦ go (has_none_addressable (state_of (marks_in run)) (a.at / 8))
+        (byte_shown bound recorded (a.at / 8 + 1) _ next)
+  ];
+}
+  where
+    here : shadow_after bound recorded (a.at / 8) ≡ shadow_in run (a.at / 8)
+    here = byte_shown bound recorded (a.at / 8) _ shown.here
 
-      go : (t : Bool) → shadow_after bound recorded (a.at / 8 + 1) ≡ shadow_after bound run (a.at / 8 + 1)
-          → shadow_after bound recorded (cond t (a.at / 8) (a.at / 8 + 1))
-          ≡ shadow_after bound run (cond t (a.at / 8) (a.at / 8 + 1))
-      go true next = here
-      go false next = next
+    go : (t : Bool) → shadow_after bound recorded (a.at / 8 + 1) ≡ shadow_in run (a.at / 8 + 1)
+        → shadow_after bound recorded (cond t (a.at / 8) (a.at / 8 + 1))
+        ≡ shadow_in run (cond t (a.at / 8) (a.at / 8 + 1))
+    go true next = here
+    go false next = next

@@ -13,18 +13,18 @@ use Rattle.trace_record.specs.declared.event.Place.{Place}
 use Rattle.trace_record.specs.declared.event.Region.{Region}
 use Rattle.shadow_map.specs.States.{HeapRedzone, code_of, lies_in, state_of, lift}
 use Rattle.heap_book.specs.Spans.{Extent, IsPlaced, span_bytes, held_of, starts_at}
-use Rattle.heap_book.proofs.Held.{held-total}
 use Rattle.asan_units.specs.Units.{round_up}
-use Rattle.asan_check.specs.History.{block_of, live, freed, held, admits, marks}
+use Rattle.asan_check.specs.History.{block_of, live, held, admits, marks}
 use Rattle.asan_check.proofs.Blocks.{live_placed, admitted_placed}
 use Rattle.asan_check.proofs.Frees as frees
 use Rattle.asan_check.proofs.Members.{in_none, in_head, in_tail, cons_cases, passes_any}
 use Rattle.asan_check.proofs.Steps.{live_malloc}
 use Rattle.asan_laws.specs.Laws.{asks_for, since_malloc, since_free}
 use Rattle.asan_laws.specs.Snapshots.{NoneShares, LiesInSpan, LiesInBytes}
-use Rattle.asan_laws.proofs.Bytes.{live_span}
-use Rattle.asan_laws.proofs.Snapshots.{lift_same, granule_in_span, same_in_live, same_in_held, same_around_held}
-use Rattle.asan_laws.proofs.Snapshots.{out_of_bytes}
+use Rattle.asan_laws.proofs.Bytes.{live_span, held_bytes, held_redzone}
+use Rattle.asan_laws.specs.Runs.{Step, live_in, held_in, marks_in, since_malloc_in, since_free_in}
+use Rattle.asan_laws.proofs.RunBytes.{live_span_in, held_bytes_in, held_redzone_in}
+use Rattle.asan_laws.proofs.Snapshots.{lift_same, granule_in_span, out_of_bytes}
 
 -- ---- a redzone of a live block
 
@@ -63,16 +63,6 @@ free_shares_none p granule = (
   ],
 )
 
--- one block's span is within the sum of several
-pub part_of_sum : (bs : List Extent) (b : Extent) → Contains bs b → span_bytes b ≤ sum_by span_bytes bs
-part_of_sum [] b has = absurd (in_none b has)
-part_of_sum (c ∷ bs) b has =
-    let sum : sum_by span_bytes (c ∷ bs) ≡ span_bytes c + sum_by span_bytes bs = sum_by-cons span_bytes c bs in
-    elim (cons_cases b c bs has) [
-      | inl same ↦ let is : span_bytes c ≡ span_bytes b = ap span_bytes same in omega arith
-      | inr rest ↦ let more = part_of_sum bs b rest in omega arith
-    ]
-
 -- the last that was freed is held if its span is within the bound
 last_is_held : (bound : ℕ) (bs : List Extent) (b : Extent) → span_bytes b ≤ bound
     → Contains (held_of bound (bs ++ b ∷ [])) b
@@ -88,7 +78,7 @@ last_is_held bound (c ∷ bs) b within =
     go true rest = in_tail b c (held_of bound (bs ++ b ∷ [])) rest
     go false rest = rest
 
-module _ (bound : ℕ) (recorded run : List Event) (r : Region) (granule : ℕ)
+module _ (bound : ℕ) (recorded : List Event) (run : List Step) (r : Region) (granule : ℕ)
     (ok : admits bound recorded (block_of r) ≡ true) where
   placed : IsPlaced (block_of r)
   placed = admitted_placed (live bound recorded ++ held bound recorded) (block_of r) ok
@@ -102,28 +92,27 @@ module _ (bound : ℕ) (recorded run : List Event) (r : Region) (granule : ℕ)
   clear_malloc : NoneShares (since_malloc bound (event.Malloc r ∷ recorded) (block_of r)) granule
   clear_malloc = rw none_since (none_share granule)
 
-  pub stated_live : Contains (live bound run) (block_of r) → LiesInSpan (block_of r) granule
-      → NoneShares (since_malloc bound run (block_of r)) granule →
-      lift (state_of (marks bound (event.Malloc r ∷ recorded))) granule ≡ lift (state_of (marks bound run)) granule
+  pub stated_live : Contains (live_in run) (block_of r) → LiesInSpan (block_of r) granule
+      → NoneShares (since_malloc_in run (block_of r)) granule →
+      lift (state_of (marks bound (event.Malloc r ∷ recorded))) granule ≡ lift (state_of (marks_in run)) granule
   stated_live also inside clear =
-      same_in_live bound (event.Malloc r ∷ recorded) run granule (block_of r) placed now_live also inside clear_malloc
-      clear
+      let b = block_of r in
+      let stated = event.Malloc r ∷ recorded in
+      lift_same (state_of (marks bound stated)) (state_of (marks_in run)) granule (λ byte above below.
+      let in_span = granule_in_span b granule byte placed inside above below in
+      live_span bound stated b byte (8 * granule) (8 * granule + 8) now_live in_span above below clear_malloc
+      ∙ sym (live_span_in run b byte (8 * granule) (8 * granule + 8) also in_span above below clear))
 
   pub stated_redzone : LiesInSpan (block_of r) granule → ¬ LiesInBytes (block_of r) granule
-      → lift (state_of (marks bound run)) granule ≡ code_of HeapRedzone →
-      lift (state_of (marks bound (event.Malloc r ∷ recorded))) granule ≡ lift (state_of (marks bound run)) granule
+      → lift (state_of (marks_in run)) granule ≡ code_of HeapRedzone →
+      lift (state_of (marks bound (event.Malloc r ∷ recorded))) granule ≡ lift (state_of (marks_in run)) granule
   stated_redzone inside outside is =
       redzone_granule bound (event.Malloc r ∷ recorded) granule (block_of r) now_live inside outside clear_malloc
       ∙ sym is
 
-  -- and its free, of a block that the run holds
-  module _ (p : Place) (also : Contains (held bound run) (block_of r)) (here : p.at ≡ r.at) where
-    within : span_bytes (block_of r) ≤ bound
-    within =
-        let all : sum_by span_bytes (held bound run) ≤ bound = held-total bound (freed bound run) in
-        let part = part_of_sum (held bound run) (block_of r) also in
-        omega arith
-
+  -- and its free, of a block that the run holds and that fits into the quarantine of the recording
+  module _ (p : Place) (within : span_bytes (block_of r) ≤ bound) (also : Contains (held_in run) (block_of r))
+      (here : p.at ≡ r.at) where
     now_held : Contains (held bound (event.Free p ∷ event.Malloc r ∷ recorded)) (block_of r)
     now_held = rw (frees.held_after bound (event.Malloc r ∷ recorded) p (block_of r) now_live (sym here))
         (last_is_held bound (held bound (event.Malloc r ∷ recorded)) (block_of r) within)
@@ -137,20 +126,34 @@ module _ (bound : ℕ) (recorded run : List Event) (r : Region) (granule : ℕ)
     none_since_free : since_free bound (event.Free p ∷ event.Malloc r ∷ recorded) (block_of r) ≡ []
     none_since_free = rw (starts_here, any_here) refl
 
-    pub stated_held : LiesInBytes (block_of r) granule → NoneShares (since_free bound run (block_of r)) granule →
+    pub stated_held : LiesInBytes (block_of r) granule → NoneShares (since_free_in run (block_of r)) granule →
         lift (state_of (marks bound (event.Free p ∷ event.Malloc r ∷ recorded))) granule
-        ≡ lift (state_of (marks bound run)) granule
+        ≡ lift (state_of (marks_in run)) granule
     stated_held inside clear =
-        same_in_held bound (event.Free p ∷ event.Malloc r ∷ recorded) run granule (block_of r) placed now_held also
-        inside (rw none_since_free (none_share granule)) clear
+        let b = block_of r in
+        let stated = event.Free p ∷ event.Malloc r ∷ recorded in
+        let start = placed.0 in
+        let from = inside.0 in
+        let to = inside.1 in
+        lift_same (state_of (marks bound stated)) (state_of (marks_in run)) granule (λ byte above below.
+        held_bytes bound stated b byte (8 * granule) (8 * granule + 8) now_held (omega arith) (omega arith) above below
+        (rw none_since_free (none_share granule))
+        ∙ sym (held_bytes_in run b byte (8 * granule) (8 * granule + 8) also (omega arith) (omega arith) above below
+        clear))
 
     pub stated_around : LiesInSpan (block_of r) granule → ¬ LiesInBytes (block_of r) granule
-        → NoneShares (since_malloc bound run (block_of r)) granule →
+        → NoneShares (since_malloc_in run (block_of r)) granule →
         lift (state_of (marks bound (event.Free p ∷ event.Malloc r ∷ recorded))) granule
-        ≡ lift (state_of (marks bound run)) granule
+        ≡ lift (state_of (marks_in run)) granule
     stated_around inside outside clear =
-        same_around_held bound (event.Free p ∷ event.Malloc r ∷ recorded) run granule (block_of r) placed now_held also
-        inside outside (subst (λ es. NoneShares es granule) (sym since_it) (free_shares_none p granule)) clear
+        let b = block_of r in
+        let stated = event.Free p ∷ event.Malloc r ∷ recorded in
+        lift_same (state_of (marks bound stated)) (state_of (marks_in run)) granule (λ byte above below.
+        let in_span = granule_in_span b granule byte placed inside above below in
+        let out = out_of_bytes bound recorded recorded granule b placed outside byte above below in
+        held_redzone bound stated b byte (8 * granule) (8 * granule + 8) now_held in_span out above below
+        (subst (λ es. NoneShares es granule) (sym since_it) (free_shares_none p granule))
+        ∙ sym (held_redzone_in run b byte (8 * granule) (8 * granule + 8) also in_span out above below clear))
       where
         since_it : since_malloc bound (event.Free p ∷ event.Malloc r ∷ recorded) (block_of r) ≡ event.Free p ∷ []
         since_it = ap (λ es. event.Free p ∷ es) none_since

@@ -4,7 +4,7 @@
 -- The recording then has other blocks than the run: its book is what the checker of the recording
 -- knows, its live and its held blocks. What is wrong with an event depends on little of that: an
 -- access on two granules, a free on the blocks that start at its address.
-use Rattle.std.specs.Prelude.{ℕ, ◌≡◌, ◌+◌, ◌⊎◌, Bool, false, IsTrue, List, [], ◌∷◌, ◌++◌, length}
+use Rattle.std.specs.Prelude.{ℕ, ◌≡◌, ◌+◌, ◌≤◌, ◌⊎◌, Bool, false, IsTrue, List, [], ◌∷◌, ◌++◌, length}
 use Rattle.std.specs.Prelude.{None, Contains, if◌then◌else◌}
 use Rattle.std.specs.List.{list_any}
 use Rattle.trace_record.specs.declared.event.Event.{Event}
@@ -15,32 +15,48 @@ use Rattle.trace_record.specs.Shades.{shade_size, shade_kind}
 use Rattle.shadow_map.specs.States.{HeapRedzone, code_of, lies_in, state_of, lift}
 use Rattle.shadow_map.specs.Granules.{poisoned_byte, unpoisoned_byte, place_in, block_byte}
 use Rattle.shadow_map.specs.Causes.{has_none_addressable}
-use Rattle.heap_book.specs.Spans.{Extent, span_from, span_to, starts_at}
+use Rattle.heap_book.specs.Spans.{Extent, span_from, span_to, span_bytes, starts_at}
 use Rattle.asan_units.specs.Units.{granule_of, first_byte, round_up}
 use Rattle.asan_check.specs.Codes.{Freed, code_of_kind}
 use Rattle.asan_check.specs.History.{block_of, live, held, admits, marks}
+use Rattle.asan_check.specs.declared.report.Fault.{Fault}
 use Rattle.asan_check.specs.Verdicts.{fault_of, is_access, marks_none, verdicts_of}
 use Rattle.asan_laws.specs.Laws.{access_event, since_malloc, since_free, NoneCovers, IsPoisonedSince}
 use Rattle.asan_laws.specs.Snapshots.{is_shade, NoneShares, LiesInSpan, LiesInBytes}
-use Rattle.asan_laws.specs.Recording.{Detail, Finds, is_of_block}
+use Rattle.asan_laws.specs.Recording.{Detail, AreSameAt, ShowAsMuch, AddTheSame, is_of_block}
+use Rattle.asan_laws.specs.Runs.{Step, Does, Releases, events_of, live_in, held_in, admits_in}
+use Rattle.asan_laws.specs.Runs.{marks_in, shadow_in, fault_in, verdicts_in}
 
 -- ---- what a recorded malloc or free has to find
 
 -- the same blocks start at an address in both, as far as a free there can see: a live one in both
 -- or in neither, and if in neither, a held one in both or in neither
-pub record HaveSameStart (bound : ℕ) (recorded run : List Event) (at : ℕ) : Type 0 where
+pub record HaveSameStart (bound : ℕ) (recorded : List Event) (run : List Step) (at : ℕ)
+    : Type 0 where
   pub live_there : list_any (starts_at at) (live bound recorded)
-      ≡ list_any (starts_at at) (live bound run)
-  pub held_there : list_any (starts_at at) (live bound run) ≡ false
-      → list_any (starts_at at) (held bound recorded) ≡ list_any (starts_at at) (held bound run)
+      ≡ list_any (starts_at at) (live_in run)
+  pub held_there : list_any (starts_at at) (live_in run) ≡ false
+      → list_any (starts_at at) (held bound recorded) ≡ list_any (starts_at at) (held_in run)
 
 -- a free finds the same blocks at its address in both, and the block that a malloc asks for is
 -- admitted in both or in neither; no other event is such a one
-abbrev pub FindsItsBlock : ℕ → List Event → List Event → Event → Type 0
+abbrev pub FindsItsBlock : ℕ → List Event → List Step → Event → Type 0
 FindsItsBlock bound recorded run (event.Malloc r) =
-    admits bound recorded (block_of r) ≡ admits bound run (block_of r)
+    admits bound recorded (block_of r) ≡ admits_in run (block_of r)
 FindsItsBlock bound recorded run (event.Free p) = HaveSameStart bound recorded run p.at
 FindsItsBlock bound recorded run e = ⊥
+
+-- an access finds as much in the recording as in the run
+abbrev pub FindsInRun : ℕ → Detail → List Event → List Step → Access → Type 0
+FindsInRun bound detail recorded run a = ShowAsMuch detail (marks bound recorded) (marks_in run) a
+
+-- each block that the run holds would fit into the quarantine of the recording
+abbrev pub EachHeldFits : ℕ → List Step → Type 0
+EachHeldFits bound run = (b : Extent) → Contains (held_in run) b → span_bytes b ≤ bound
+
+-- a granule has the same shadow byte in the recording and in the run
+abbrev pub IsAsInRun : ℕ → List Event → List Step → ℕ → Type 0
+IsAsInRun bound recorded run granule = AreSameAt (marks bound recorded) (marks_in run) granule
 
 -- a malloc may be put in if the recording admits its block, which meets none of its live and held
 -- blocks, and a free, if a block starts there that is live in the recording; no other event is such
@@ -53,70 +69,84 @@ MayBeStated bound recorded e = ⊥
 -- ---- what a recorder may write
 
 -- a lean recording of a run: each event of either came to its place in one of these ways
-pub data RecordsLeanly (bound : ℕ) (detail : Detail) (first past : List Event)
-    : List Event → List Event → Type 0 where
+pub data RecordsLeanly (bound : ℕ) (detail : Detail) (first : List Event) (past : List Step)
+    : List Event → List Step → Type 0 where
   -- the recording begins with these first events, when this is what the run has done
   begins : RecordsLeanly bound detail first past first past
   -- a malloc or a free is recorded, which finds in the recording what it finds in the run
-  block : (e : Event) (recorded run : List Event) → FindsItsBlock bound recorded run e
-      → RecordsLeanly bound detail first past recorded run
-      → RecordsLeanly bound detail first past (e ∷ recorded) (e ∷ run)
+  block : (e : Event) (recorded : List Event) (run : List Step)
+      → FindsItsBlock bound recorded run e → RecordsLeanly bound detail first past recorded run
+      → RecordsLeanly bound detail first past (e ∷ recorded) (Does e ∷ run)
   -- a load or a store is recorded, which finds in the recording what it finds in the run
-  access : (is_store : Bool) (a : Access) (recorded run : List Event)
-      → Finds bound detail recorded run a → RecordsLeanly bound detail first past recorded run
+  access : (is_store : Bool) (a : Access) (recorded : List Event) (run : List Step)
+      → FindsInRun bound detail recorded run a → RecordsLeanly bound detail first past recorded run
       → RecordsLeanly bound detail first past (access_event is_store a ∷ recorded)
-      (access_event is_store a ∷ run)
+      (Does (access_event is_store a) ∷ run)
   -- a malloc or a free is left out, which is good in the run
-  leaves_out_block : (e : Event) (recorded run : List Event) → IsTrue (is_of_block e)
-      → fault_of bound run e ≡ None → RecordsLeanly bound detail first past recorded run
-      → RecordsLeanly bound detail first past recorded (e ∷ run)
+  leaves_out_block : (e : Event) (recorded : List Event) (run : List Step) → IsTrue (is_of_block e)
+      → fault_in run e ≡ None → RecordsLeanly bound detail first past recorded run
+      → RecordsLeanly bound detail first past recorded (Does e ∷ run)
   -- a malloc or a free is put in, which states what some block is
-  states_block : (e : Event) (recorded run : List Event) → MayBeStated bound recorded e
-      → RecordsLeanly bound detail first past recorded run
+  states_block : (e : Event) (recorded : List Event) (run : List Step)
+      → MayBeStated bound recorded e → RecordsLeanly bound detail first past recorded run
       → RecordsLeanly bound detail first past (e ∷ recorded) run
+  -- the run releases a block, and the recording stays as it is
+  releases : (at : ℕ) (recorded : List Event) (run : List Step)
+      → RecordsLeanly bound detail first past recorded run
+      → RecordsLeanly bound detail first past recorded (Releases at ∷ run)
   -- a load or a store is left out, which is good in the run
-  leaves_out_access : (e : Event) (recorded run : List Event) → IsTrue (is_access e)
-      → fault_of bound run e ≡ None → RecordsLeanly bound detail first past recorded run
-      → RecordsLeanly bound detail first past recorded (e ∷ run)
+  leaves_out_access : (e : Event) (recorded : List Event) (run : List Step) → IsTrue (is_access e)
+      → fault_in run e ≡ None → RecordsLeanly bound detail first past recorded run
+      → RecordsLeanly bound detail first past recorded (Does e ∷ run)
   -- an event is put in that changes nothing, as a load does, and is good in the recording
-  says_nothing : (e : Event) (recorded run : List Event) → IsTrue (marks_none e)
+  says_nothing : (e : Event) (recorded : List Event) (run : List Step) → IsTrue (marks_none e)
       → fault_of bound recorded e ≡ None → RecordsLeanly bound detail first past recorded run
       → RecordsLeanly bound detail first past (e ∷ recorded) run
   -- a poison or an unpoison is left out; one that is recorded in its place is also put in
-  leaves_out_shade : (e : Event) (recorded run : List Event) → IsTrue (is_shade e)
+  leaves_out_shade : (e : Event) (recorded : List Event) (run : List Step) → IsTrue (is_shade e)
       → RecordsLeanly bound detail first past recorded run
-      → RecordsLeanly bound detail first past recorded (e ∷ run)
+      → RecordsLeanly bound detail first past recorded (Does e ∷ run)
   -- a poison or an unpoison is put in, which states what some memory is
-  states : (e : Event) (recorded run : List Event) → IsTrue (is_shade e)
+  states : (e : Event) (recorded : List Event) (run : List Step) → IsTrue (is_shade e)
       → RecordsLeanly bound detail first past recorded run
       → RecordsLeanly bound detail first past (e ∷ recorded) run
 
 -- of each event that stands in both, and has since the recording began, its number in the recording
 -- and its number in the run, in their order
-abbrev pub lean_numbers : {bound : ℕ} {detail : Detail} {first past recorded run : List Event}
+abbrev pub lean_numbers : {bound : ℕ} {detail : Detail} {first : List Event} {past : List Step}
+    {recorded : List Event} {run : List Step}
     → RecordsLeanly bound detail first past recorded run → List (ℕ × ℕ)
 lean_numbers begins = []
 lean_numbers (block e recorded run finds way) =
-    lean_numbers way ++ (length recorded + 1, length run + 1) ∷ []
+    lean_numbers way ++ (length recorded + 1, length (events_of run) + 1) ∷ []
 lean_numbers (access is_store a recorded run finds way) =
-    lean_numbers way ++ (length recorded + 1, length run + 1) ∷ []
+    lean_numbers way ++ (length recorded + 1, length (events_of run) + 1) ∷ []
 lean_numbers (leaves_out_block e recorded run is good way) = lean_numbers way
 lean_numbers (states_block e recorded run may way) = lean_numbers way
+lean_numbers (releases at recorded run way) = lean_numbers way
 lean_numbers (leaves_out_access e recorded run is good way) = lean_numbers way
 lean_numbers (says_nothing e recorded run is good way) = lean_numbers way
 lean_numbers (leaves_out_shade e recorded run is way) = lean_numbers way
 lean_numbers (states e recorded run is way) = lean_numbers way
 
--- a run is recorded in segments, one after the other. Each begins when the one before it has ended,
--- with some events in which nothing is wrong, as poisons and unpoisons. Nothing that the one before
--- it had has to stand in it.
-pub data RecordsInSegments (bound : ℕ) (detail : Detail)
-    : List (List Event) → List Event → Type 0 where
-  no_segment : RecordsInSegments bound detail [] []
-  one_more : (segments : List (List Event)) (first recorded past run : List Event)
-      → verdicts_of bound first ≡ [] → RecordsInSegments bound detail segments past
-      → RecordsLeanly bound detail first past recorded run
-      → RecordsInSegments bound detail (segments ++ recorded ∷ []) run
+-- since a lean recording began, the same is reported of it as of the run
+abbrev pub AreReportedInRun : ℕ → List (ℕ × ℕ) → (Fault → Fault → Type 0) → List Event → List Step
+    → List Event → List Step → Type 0
+AreReportedInRun bound numbers Same first past recorded run =
+    AddTheSame numbers Same (verdicts_of bound first) (verdicts_of bound recorded)
+    (verdicts_in past) (verdicts_in run)
+
+-- from some past on, a run is recorded in segments, one after the other. The first begins when the
+-- run has done this past, as that of a forked child is its parent's, and each other one when the
+-- one before it has ended: with some events in which nothing is wrong, as poisons and unpoisons.
+-- Nothing that the one before it had has to stand in it.
+pub data RecordsInSegments (bound : ℕ) (detail : Detail) (past : List Step)
+    : List (List Event) → List Step → Type 0 where
+  no_segment : RecordsInSegments bound detail past [] past
+  one_more : (segments : List (List Event)) (first recorded : List Event) (before run : List Step)
+      → verdicts_of bound first ≡ [] → RecordsInSegments bound detail past segments before
+      → RecordsLeanly bound detail first before recorded run
+      → RecordsInSegments bound detail past (segments ++ recorded ∷ []) run
 
 -- ---- shadow bytes, and what each event makes of them
 
@@ -174,8 +204,8 @@ pub data IsShown (bound : ℕ) (past : List Event) (granule : ℕ) : ℕ → Typ
 
 -- a recording shows what an access looks at as it is in the run: the granule of its first byte, and
 -- if some byte of that is addressable in the run, the next one too, which may say the class
-pub record IsShownForAccess (bound : ℕ) (recorded run : List Event) (a : Access) : Type 0 where
-  pub here : IsShown bound recorded (granule_of a.at) (shadow_after bound run (granule_of a.at))
-  pub class_there :
-      IsTrue (has_none_addressable (state_of (marks bound run)) (granule_of a.at))
-      ⊎ IsShown bound recorded (granule_of a.at + 1) (shadow_after bound run (granule_of a.at + 1))
+pub record IsShownForAccess (bound : ℕ) (recorded : List Event) (run : List Step) (a : Access)
+    : Type 0 where
+  pub here : IsShown bound recorded (granule_of a.at) (shadow_in run (granule_of a.at))
+  pub class_there : IsTrue (has_none_addressable (state_of (marks_in run)) (granule_of a.at))
+      ⊎ IsShown bound recorded (granule_of a.at + 1) (shadow_in run (granule_of a.at + 1))

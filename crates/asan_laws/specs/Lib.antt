@@ -2,4 +2,5 @@ pub mod Laws
 pub mod Thinning
 pub mod Snapshots
 pub mod Recording
+pub mod Runs
 pub mod LeanRecording

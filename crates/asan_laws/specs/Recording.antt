@@ -10,7 +10,7 @@ use Rattle.trace_record.specs.declared.event.Event.{Event}
 use Rattle.trace_record.specs.declared.event.Event.TheVariants as event
 use Rattle.trace_record.specs.declared.event.Access.{Access}
 use Rattle.trace_record.specs.declared.event.Region.{Region}
-use Rattle.shadow_map.specs.States.{state_of, lift, bad_byte_of}
+use Rattle.shadow_map.specs.States.{Mark, state_of, lift, bad_byte_of}
 use Rattle.shadow_map.specs.Granules.{front_of}
 use Rattle.shadow_map.specs.Causes.{deciding_granule}
 use Rattle.heap_book.specs.Spans.{Extent, meets}
@@ -36,23 +36,22 @@ pub record HaveBlocksBut (bound : ℕ) (cut : List Extent) (recorded run : List 
 abbrev pub HaveSameBlocks : ℕ → List Event → List Event → Type 0
 HaveSameBlocks bound recorded run = HaveBlocksBut bound [] recorded run
 
--- a granule has the same shadow byte after both
-abbrev pub IsSameAt : ℕ → List Event → List Event → ℕ → Type 0
-IsSameAt bound recorded run granule =
-    lift (state_of (marks bound recorded)) granule ≡ lift (state_of (marks bound run)) granule
+-- a granule has the same shadow byte after these marks, of a recording and of its run
+abbrev pub AreSameAt : List Mark → List Mark → ℕ → Type 0
+AreSameAt recorded run granule = lift (state_of recorded) granule ≡ lift (state_of run) granule
 
--- an access finds the same in both: the same shadow byte in the granule of its first byte and, if
--- it is bad in the run, in the granule that says the class
-pub record FindsTheSame (bound : ℕ) (recorded run : List Event) (a : Access) : Type 0 where
-  pub here : IsSameAt bound recorded run (granule_of a.at)
-  pub class_there : IsSome (bad_byte_of (state_of (marks bound run)) a.at a.width)
-      → IsSameAt bound recorded run (deciding_granule (state_of (marks bound run)) a.at)
+-- an access finds the same after both: the same shadow byte in the granule of its first byte and,
+-- if it is bad in the run, in the granule that says the class
+pub record ShowTheSame (recorded run : List Mark) (a : Access) : Type 0 where
+  pub here : AreSameAt recorded run (granule_of a.at)
+  pub class_there : IsSome (bad_byte_of (state_of run) a.at a.width)
+      → AreSameAt recorded run (deciding_granule (state_of run) a.at)
 
--- an access finds as many addressable bytes in both, in the granule of its first byte
-abbrev pub FindsAsMany : ℕ → List Event → List Event → Access → Type 0
-FindsAsMany bound recorded run a =
-    front_of (lift (state_of (marks bound recorded)) (granule_of a.at))
-    ≡ front_of (lift (state_of (marks bound run)) (granule_of a.at))
+-- an access finds as many addressable bytes after both, in the granule of its first byte
+abbrev pub ShowAsMany : List Mark → List Mark → Access → Type 0
+ShowAsMany recorded run a =
+    front_of (lift (state_of recorded) (granule_of a.at))
+    ≡ front_of (lift (state_of run) (granule_of a.at))
 
 -- what a recorded access has to find as it is in the run: all shadow bytes that it looks at, or
 -- only how many bytes are addressable
@@ -60,10 +59,23 @@ pub data Detail : Type 0 where
   shadow_bytes : Detail
   addressable_bytes : Detail
 
--- an access finds as much in both
+-- an access finds as much after both
+abbrev pub ShowAsMuch : Detail → List Mark → List Mark → Access → Type 0
+ShowAsMuch shadow_bytes recorded run a = ShowTheSame recorded run a
+ShowAsMuch addressable_bytes recorded run a = ShowAsMany recorded run a
+
+-- the same of two histories
+abbrev pub IsSameAt : ℕ → List Event → List Event → ℕ → Type 0
+IsSameAt bound recorded run granule = AreSameAt (marks bound recorded) (marks bound run) granule
+
+abbrev pub FindsTheSame : ℕ → List Event → List Event → Access → Type 0
+FindsTheSame bound recorded run a = ShowTheSame (marks bound recorded) (marks bound run) a
+
+abbrev pub FindsAsMany : ℕ → List Event → List Event → Access → Type 0
+FindsAsMany bound recorded run a = ShowAsMany (marks bound recorded) (marks bound run) a
+
 abbrev pub Finds : ℕ → Detail → List Event → List Event → Access → Type 0
-Finds bound shadow_bytes recorded run a = FindsTheSame bound recorded run a
-Finds bound addressable_bytes recorded run a = FindsAsMany bound recorded run a
+Finds bound detail recorded run a = ShowAsMuch detail (marks bound recorded) (marks bound run) a
 
 -- ---- what a recorder may write
 
@@ -154,15 +166,21 @@ abbrev pub IsReportedOfOne : List (ℕ × ℕ) → (Fault → Fault → Type 0) 
 IsReportedOfOne numbers Same one other =
     Contains numbers (one.number, other.number) × Same one.fault other.fault
 
--- since the recording began, the same is reported of it as of the run: the reports on each are such
--- reports, one by one
-pub record AreReportedAlike (bound : ℕ) (numbers : List (ℕ × ℕ)) (Same : Fault → Fault → Type 0)
-    (first past recorded run : List Event) : Type 0 where
+-- to the reports on a recording and to those on its run the same is added: such reports, one by one
+pub record AddTheSame (numbers : List (ℕ × ℕ)) (Same : Fault → Fault → Type 0)
+    (first recorded past run : List Report) : Type 0 where
   pub of_recording : List Report
   pub of_run : List Report
-  pub recording_adds : verdicts_of bound recorded ≡ verdicts_of bound first ++ of_recording
-  pub run_adds : verdicts_of bound run ≡ verdicts_of bound past ++ of_run
+  pub recording_adds : recorded ≡ first ++ of_recording
+  pub run_adds : run ≡ past ++ of_run
   pub one_by_one : AllZip (IsReportedOfOne numbers Same) of_recording of_run
+
+-- since the recording began, the same is reported of it as of the run
+abbrev pub AreReportedAlike : ℕ → List (ℕ × ℕ) → (Fault → Fault → Type 0) → List Event → List Event
+    → List Event → List Event → Type 0
+AreReportedAlike bound numbers Same first past recorded run =
+    AddTheSame numbers Same (verdicts_of bound first) (verdicts_of bound recorded)
+    (verdicts_of bound past) (verdicts_of bound run)
 
 -- ---- the recording goes on in a new segment
 

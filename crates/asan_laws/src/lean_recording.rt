@@ -20,86 +20,101 @@ ghost use Rattle.asan_check.specs.declared.report.Fault.{Fault};
 ghost use Rattle.asan_check.specs.Codes.{code_of_kind};
 ghost use Rattle.asan_check.specs.History.{block_of, live, held, admits};
 ghost use Rattle.asan_check.specs.Verdicts.{fault_of, is_access, verdicts};
-ghost use Rattle.asan_laws.specs.Laws.{since_malloc, since_free};
 ghost use Rattle.asan_laws.specs.Thinning.{faults_of, faults_on};
 ghost use Rattle.asan_laws.specs.Snapshots.{is_shade, NoneShares, LiesInSpan, LiesInBytes};
-ghost use Rattle.asan_laws.specs.Recording.{HaveSameBlocks, IsSameAt, FindsTheSame, Records};
-ghost use Rattle.asan_laws.specs.Recording.{HasNumber, IsBefore, IsReportedOfOne, AreReportedAlike};
+ghost use Rattle.asan_laws.specs.Recording.{HaveSameBlocks, IsSameAt, Records};
+ghost use Rattle.asan_laws.specs.Recording.{HasNumber, IsBefore, IsReportedOfOne};
 ghost use Rattle.asan_laws.specs.Recording.{IsSameButForClass, without_class, is_of_block};
 ghost use Rattle.asan_laws.specs.Recording.{Detail, shadow_bytes, addressable_bytes};
+ghost use Rattle.asan_laws.specs.Runs.{Step, Does, events_of, live_in, held_in, shadow_in};
+ghost use Rattle.asan_laws.specs.Runs.{fault_in, faults_in, verdicts_in};
+ghost use Rattle.asan_laws.specs.Runs.{since_malloc_in, since_free_in};
+ghost use Rattle.asan_laws.specs.Runs.{with_quarantine};
+ghost use Rattle.asan_laws.specs.LeanRecording.{EachHeldFits, FindsInRun, IsAsInRun};
+ghost use Rattle.asan_laws.specs.LeanRecording.{AreReportedInRun};
 ghost use Rattle.asan_laws.specs.LeanRecording.{RecordsLeanly, lean_numbers, RecordsInSegments};
 ghost use Rattle.asan_laws.specs.LeanRecording.{FindsItsBlock, shadow_after, freed_byte};
 ghost use Rattle.asan_laws.specs.LeanRecording.{released_byte, shaded_byte, IsShown};
 ghost use Rattle.asan_laws.specs.LeanRecording.{IsShownForAccess};
 
 /// What is wrong in a lean recording is what is wrong in the run: the same faults in the same
-/// order, and each report on the same event. The recording may begin at any time, with any events.
-/// If it begins with the run, all reports are the same but for numbers. If what is recorded finds
-/// only as many addressable bytes as in the run, they are the same but for classes and shadow
-/// bytes.
+/// order, and each report on the same event, whenever the run releases its blocks. The recording
+/// may begin at any time, with any events. If it begins with the run, all reports are the same but
+/// for numbers. If what is recorded finds only as many addressable bytes as in the run, they are
+/// the same but for classes and shadow bytes.
 pub fn a_lean_recording_has_the_faults_of_the_run()
-    ensures faults { (bound : ℕ) (first past recorded run : List Event) →
+    ensures faults { (bound : ℕ) (first : List Event) (past : List Step) (recorded : List Event)
+        (run : List Step) →
         RecordsLeanly bound shadow_bytes first past recorded run →
         (added : List Fault)
         × (faults_of bound recorded ≡ faults_of bound first ++ added)
-        × (faults_of bound run ≡ faults_of bound past ++ added) }
-    ensures reports { (bound : ℕ) (first past recorded run : List Event) →
+        × (faults_in run ≡ faults_in past ++ added) }
+    ensures reports { (bound : ℕ) (first : List Event) (past : List Step) (recorded : List Event)
+        (run : List Step) →
         (way : RecordsLeanly bound shadow_bytes first past recorded run) →
-        AreReportedAlike bound (lean_numbers way) ◌≡◌ first past recorded run }
-    ensures whole { (bound : ℕ) (recorded run : List Event)
+        AreReportedInRun bound (lean_numbers way) ◌≡◌ first past recorded run }
+    ensures whole { (bound : ℕ) (recorded : List Event) (run : List Step)
         (way : RecordsLeanly bound shadow_bytes [] [] (reverse recorded) (reverse run)) →
-        (faults_on bound recorded ≡ faults_on bound run)
+        (faults_on bound recorded ≡ faults_in (reverse run))
         × AllZip (IsReportedOfOne (lean_numbers way) ◌≡◌)
-        (verdicts bound recorded) (verdicts bound run) }
-    ensures classes { (bound : ℕ) (first past recorded run : List Event) →
+        (verdicts bound recorded) (verdicts_in (reverse run)) }
+    ensures classes { (bound : ℕ) (first : List Event) (past : List Step) (recorded : List Event)
+        (run : List Step) →
         (way : RecordsLeanly bound addressable_bytes first past recorded run) →
-        AreReportedAlike bound (lean_numbers way) IsSameButForClass first past recorded run }
+        AreReportedInRun bound (lean_numbers way) IsSameButForClass first past recorded run }
 {}
 
 /// Each event that a lean recording has in common with its run stands in both, by its number in
 /// each. These pairs of numbers rise together: what comes later in the recording comes later in the
 /// run.
 pub fn what_is_recorded_leanly_has_a_number_in_both()
-    ensures event { (bound : ℕ) (detail : Detail) (first past recorded run : List Event)
+    ensures event { (bound : ℕ) (detail : Detail) (first : List Event) (past : List Step)
+        (recorded : List Event) (run : List Step)
         (way : RecordsLeanly bound detail first past recorded run) (in_recording in_run : ℕ) →
         Contains (lean_numbers way) (in_recording, in_run) → (event : Event)
-        × HasNumber recorded event in_recording × HasNumber run event in_run }
-    ensures order { (bound : ℕ) (detail : Detail) (first past recorded run : List Event)
+        × HasNumber recorded event in_recording × HasNumber (events_of run) event in_run }
+    ensures order { (bound : ℕ) (detail : Detail) (first : List Event) (past : List Step)
+        (recorded : List Event) (run : List Step)
         (way : RecordsLeanly bound detail first past recorded run) →
         AllPairs IsBefore (lean_numbers way) }
 {}
 
-/// What is wrong in a run is what is wrong in its segments, one after the other. Each segment
-/// begins with an empty book, or with any events in which nothing is wrong. If what is recorded
-/// finds only as many addressable bytes as in the run, it is the same but for classes and shadow
-/// bytes.
+/// What is wrong in a run is what was wrong in its past when its first segment began, and then what
+/// is wrong in its segments, one after the other. Each begins with an empty book, or with any
+/// events in which nothing is wrong. If what is recorded finds only as many addressable bytes, it
+/// is the same but for classes and shadow bytes.
 pub fn lean_segments_have_the_faults_of_the_run()
-    ensures faults { (bound : ℕ) (segments : List (List Event)) (run : List Event) →
-        RecordsInSegments bound shadow_bytes segments run →
-        flat_map (faults_of bound) segments ≡ faults_of bound run }
-    ensures classes { (bound : ℕ) (segments : List (List Event)) (run : List Event) →
-        RecordsInSegments bound addressable_bytes segments run →
-        map without_class (flat_map (faults_of bound) segments)
-        ≡ map without_class (faults_of bound run) }
+    ensures faults { (bound : ℕ) (past : List Step) (segments : List (List Event))
+        (run : List Step) →
+        RecordsInSegments bound shadow_bytes past segments run →
+        faults_in run ≡ faults_in past ++ flat_map (faults_of bound) segments }
+    ensures classes { (bound : ℕ) (past : List Step) (segments : List (List Event))
+        (run : List Step) →
+        RecordsInSegments bound addressable_bytes past segments run →
+        map without_class (faults_in run)
+        ≡ map without_class (faults_in past)
+        ++ map without_class (flat_map (faults_of bound) segments) }
 {}
 
-/// In a new segment each load, store, malloc and free can be recorded, whatever the run has done:
-/// there are events to put in after which it finds what it finds in the run. So a recorder never
-/// has to give up.
+/// In a new segment each load, store, malloc and free can be recorded, whatever the run has done,
+/// as long as each block that it holds fits into the quarantine of the recording: there are events
+/// to put in after which it finds what it finds in the run. So a recorder never has to give up.
 pub fn each_event_can_be_recorded_in_a_new_segment()
-    ensures { (bound : ℕ) (run : List Event) (e : Event) → is_shade e ≡ false →
+    ensures { (bound : ℕ) (run : List Step) → EachHeldFits bound run →
+        (e : Event) → is_shade e ≡ false →
         (stated : List Event)
-        × RecordsLeanly bound shadow_bytes [] run (e ∷ stated) (e ∷ run) }
+        × RecordsLeanly bound shadow_bytes [] run (e ∷ stated) (Does e ∷ run) }
 {}
 
-/// A recording with each malloc and free is a lean one too, if it has the same blocks as the run
-/// when it begins. So a process may go over from full to lean recording at any time, and back at a
-/// new segment that begins with the blocks of the run.
+/// A recording with each malloc and free is a lean one too, of the run with one quarantine, if it
+/// has the same blocks as the run when it begins. So a process may go over from full to lean
+/// recording at any time, and back at a new segment that begins with the blocks of the run.
 pub fn a_full_recording_is_a_lean_one()
     ensures { (bound : ℕ) (detail : Detail) (first past recorded run : List Event) →
         HaveSameBlocks bound first past →
         Records bound detail first past recorded run →
-        RecordsLeanly bound detail first past recorded run }
+        RecordsLeanly bound detail first (with_quarantine bound past) recorded
+        (with_quarantine bound run) }
 {}
 
 /// What a recorder has to note to know the book of its recording. A malloc that is put in adds its
@@ -136,8 +151,8 @@ pub fn a_recorder_can_keep_the_book()
 /// What is wrong with a malloc or a free depends on little of the book: on whether the block is
 /// admitted, and on which blocks start at the address.
 pub fn a_free_looks_at_its_address()
-    ensures { (bound : ℕ) (recorded run : List Event) (e : Event) →
-        FindsItsBlock bound recorded run e → fault_of bound recorded e ≡ fault_of bound run e }
+    ensures { (bound : ℕ) (recorded : List Event) (run : List Step) (e : Event) →
+        FindsItsBlock bound recorded run e → fault_of bound recorded e ≡ fault_in run e }
 {}
 
 /// What each event makes of a granule's shadow byte, after any history. A recorder that keeps a
@@ -208,35 +223,41 @@ pub fn what_stands_in_a_granule_says_its_shadow_byte()
     ensures same { (bound : ℕ) (recorded run : List Event) (granule shadow : ℕ) →
         IsShown bound recorded granule shadow → IsShown bound run granule shadow →
         IsSameAt bound recorded run granule }
-    ensures finds { (bound : ℕ) (recorded run : List Event) (access : Access) →
-        IsShownForAccess bound recorded run access → FindsTheSame bound recorded run access }
+    ensures finds { (bound : ℕ) (recorded : List Event) (run : List Step) (access : Access) →
+        IsShownForAccess bound recorded run access →
+        FindsInRun bound shadow_bytes recorded run access }
 {}
 
 /// A block that is stated looks at once as in the run. It was live there, and a malloc of it is put
-/// in; it was held there, and a malloc and a free are put in; or some memory is redzone there, as
-/// what was released, and a malloc is put in that has a redzone in that place, as one of no bytes.
-/// Poison that comes near it in the run is stated after it.
+/// in; it was held there, and a malloc and a free are put in, if it fits into the quarantine of the
+/// recording; or some memory is redzone there, as what was released, and a malloc is put in that
+/// has a redzone in that place, as one of no bytes. Poison that comes near it in the run is stated
+/// after it.
 pub fn a_stated_block_looks_as_in_the_run()
-    ensures live { (bound : ℕ) (recorded run : List Event) (r : Region) (granule : ℕ) →
-        IsTrue (admits bound recorded (block_of r)) → Contains (live bound run) (block_of r) →
+    ensures live { (bound : ℕ) (recorded : List Event) (run : List Step) (r : Region)
+        (granule : ℕ) →
+        IsTrue (admits bound recorded (block_of r)) → Contains (live_in run) (block_of r) →
         LiesInSpan (block_of r) granule →
-        NoneShares (since_malloc bound run (block_of r)) granule →
-        IsSameAt bound (event.Malloc r ∷ recorded) run granule }
-    ensures held { (bound : ℕ) (recorded run : List Event) (r : Region) (p : Place)
+        NoneShares (since_malloc_in run (block_of r)) granule →
+        IsAsInRun bound (event.Malloc r ∷ recorded) run granule }
+    ensures held { (bound : ℕ) (recorded : List Event) (run : List Step) (r : Region) (p : Place)
         (granule : ℕ) →
-        IsTrue (admits bound recorded (block_of r)) → Contains (held bound run) (block_of r) →
+        IsTrue (admits bound recorded (block_of r)) → span_bytes (block_of r) ≤ bound →
+        Contains (held_in run) (block_of r) →
         p.at ≡ r.at → LiesInBytes (block_of r) granule →
-        NoneShares (since_free bound run (block_of r)) granule →
-        IsSameAt bound (event.Free p ∷ event.Malloc r ∷ recorded) run granule }
-    ensures around_held { (bound : ℕ) (recorded run : List Event) (r : Region) (p : Place)
-        (granule : ℕ) →
-        IsTrue (admits bound recorded (block_of r)) → Contains (held bound run) (block_of r) →
+        NoneShares (since_free_in run (block_of r)) granule →
+        IsAsInRun bound (event.Free p ∷ event.Malloc r ∷ recorded) run granule }
+    ensures around_held { (bound : ℕ) (recorded : List Event) (run : List Step) (r : Region)
+        (p : Place) (granule : ℕ) →
+        IsTrue (admits bound recorded (block_of r)) → span_bytes (block_of r) ≤ bound →
+        Contains (held_in run) (block_of r) →
         p.at ≡ r.at → LiesInSpan (block_of r) granule → ¬ LiesInBytes (block_of r) granule →
-        NoneShares (since_malloc bound run (block_of r)) granule →
-        IsSameAt bound (event.Free p ∷ event.Malloc r ∷ recorded) run granule }
-    ensures redzone { (bound : ℕ) (recorded run : List Event) (r : Region) (granule : ℕ) →
+        NoneShares (since_malloc_in run (block_of r)) granule →
+        IsAsInRun bound (event.Free p ∷ event.Malloc r ∷ recorded) run granule }
+    ensures redzone { (bound : ℕ) (recorded : List Event) (run : List Step) (r : Region)
+        (granule : ℕ) →
         IsTrue (admits bound recorded (block_of r)) → LiesInSpan (block_of r) granule →
         ¬ LiesInBytes (block_of r) granule →
-        shadow_after bound run granule ≡ code_of HeapRedzone →
-        IsSameAt bound (event.Malloc r ∷ recorded) run granule }
+        shadow_in run granule ≡ code_of HeapRedzone →
+        IsAsInRun bound (event.Malloc r ∷ recorded) run granule }
 {}

@@ -6,6 +6,7 @@
 mod laws;
 mod lean_recording;
 mod recording;
+mod runs;
 
 pub use laws::{
     accesses_leave_no_trace, an_access_twice_gives_its_fault_twice,
@@ -31,4 +32,8 @@ pub use recording::{
     a_segment_has_the_faults_of_the_run_but_for_classes,
     a_segment_may_leave_out_the_oldest_held_blocks, an_access_is_as_bad_but_for_its_class,
     an_access_looks_at_two_granules, what_is_recorded_has_a_number_in_both,
+};
+pub use runs::{
+    a_run_reports_what_comes_to_a_held_block, a_run_that_releases_nothing_forgets_no_block,
+    a_run_with_one_quarantine_is_as_its_history,
 };

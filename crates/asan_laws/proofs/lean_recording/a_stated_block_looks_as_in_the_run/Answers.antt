@@ -6,12 +6,12 @@ returns-clause-live c bound recorded run r granule ok also inside clear =
     stated_live bound recorded run r granule ok also inside clear
 
 pub returns-clause-held : goal.returns-clause-held
-returns-clause-held c bound recorded run r p granule ok also here inside clear =
-    stated_held bound recorded run r granule ok p also here inside clear
+returns-clause-held c bound recorded run r p granule ok within also here inside clear =
+    stated_held bound recorded run r granule ok p within also here inside clear
 
 pub returns-clause-around_held : goal.returns-clause-around_held
-returns-clause-around_held c bound recorded run r p granule ok also here inside outside clear =
-    stated_around bound recorded run r granule ok p also here inside outside clear
+returns-clause-around_held c bound recorded run r p granule ok within also here inside outside clear =
+    stated_around bound recorded run r granule ok p within also here inside outside clear
 
 pub returns-clause-redzone : goal.returns-clause-redzone
 returns-clause-redzone c bound recorded run r granule ok inside outside is =

@@ -1,0 +1,74 @@
+//! Runs that hold each freed block as long as they like: the run with one quarantine is as its
+//! history says, and what a run says of a block that it holds. Each function does nothing: its
+//! contract is the law.
+
+ghost use Rattle.std.specs.Prelude.{◌≡◌, ◌+◌, ◌∷◌, ◌++◌, ℕ, List, Some, Contains, false, Bool};
+ghost use Rattle.std.specs.Prelude.{IsTrue};
+ghost use Rattle.trace_record.specs.declared.event.Event.{Event};
+ghost use Rattle.trace_record.specs.declared.event.Event.TheVariants as event;
+ghost use Rattle.trace_record.specs.declared.event.Access.{Access};
+ghost use Rattle.trace_record.specs.declared.event.Place.{Place};
+ghost use Rattle.trace_record.specs.declared.event.Region.{Region};
+ghost use Rattle.shadow_map.specs.States.{code_of};
+ghost use Rattle.heap_book.specs.Spans.{Extent, meets};
+ghost use Rattle.asan_units.specs.Units.{round_up};
+ghost use Rattle.asan_check.specs.declared.report.Class.TheVariants as class;
+ghost use Rattle.asan_check.specs.declared.report.Fault.TheVariants as fault;
+ghost use Rattle.asan_check.specs.Codes.{Freed};
+ghost use Rattle.asan_check.specs.History.{block_of, live, held, marks};
+ghost use Rattle.asan_check.specs.Verdicts.{fault_of, verdicts_of};
+ghost use Rattle.asan_laws.specs.Laws.{since_malloc, since_free, NoPoisonShares, NoUnpoisonShares};
+ghost use Rattle.asan_laws.specs.Laws.{StartsWithin, access_event};
+ghost use Rattle.asan_laws.specs.Runs.{Step, events_of, live_in, held_in, admits_in, marks_in};
+ghost use Rattle.asan_laws.specs.Runs.{fault_in, verdicts_in, since_malloc_in, since_free_in};
+ghost use Rattle.asan_laws.specs.Runs.{with_quarantine, without_release};
+ghost use Rattle.asan_laws.specs.LeanRecording.{EachHeldFits};
+
+/// The run that does the events of a history with one quarantine, a queue of `bound` bytes, is as
+/// the history says: it has the same events, blocks and marks, the same is wrong with an event
+/// after it, and the verdicts on it are the same. Each block that it holds fits into the queue.
+pub fn a_run_with_one_quarantine_is_as_its_history()
+    ensures events { (bound : ℕ) (past : List Event) →
+        events_of (with_quarantine bound past) ≡ past }
+    ensures blocks { (bound : ℕ) (past : List Event) →
+        (live_in (with_quarantine bound past) ≡ live bound past)
+        × (held_in (with_quarantine bound past) ≡ held bound past) }
+    ensures marks { (bound : ℕ) (past : List Event) →
+        marks_in (with_quarantine bound past) ≡ marks bound past }
+    ensures since { (bound : ℕ) (past : List Event) (block : Extent) →
+        (since_malloc_in (with_quarantine bound past) block ≡ since_malloc bound past block)
+        × (since_free_in (with_quarantine bound past) block ≡ since_free bound past block) }
+    ensures fault { (bound : ℕ) (past : List Event) (e : Event) →
+        fault_in (with_quarantine bound past) e ≡ fault_of bound past e }
+    ensures verdicts { (bound : ℕ) (past : List Event) →
+        verdicts_in (with_quarantine bound past) ≡ verdicts_of bound past }
+    ensures fits { (bound : ℕ) (past : List Event) → EachHeldFits bound (with_quarantine bound past) }
+{}
+
+/// What a run says of a block that it holds: a second free of it is a double free, its memory is
+/// not handed out again, and an access that starts at its bytes is a use after free, as long as no
+/// poison and no unpoison since its free shares a granule with them.
+pub fn a_run_reports_what_comes_to_a_held_block()
+    ensures double_free { (run : List Step) (block : Extent) (p : Place) →
+        Contains (held_in run) block → p.at ≡ block.at →
+        fault_in run (event.Free p) ≡ Some (fault.DoubleFree p.at) }
+    ensures not_handed_out { (run : List Step) (block : Extent) (r : Region) →
+        Contains (held_in run) block → IsTrue (meets (block_of r) block) →
+        admits_in run (block_of r) ≡ false }
+    ensures use_after_free { (run : List Step) (block : Extent) (is_store : Bool)
+        (access : Access) →
+        Contains (held_in run) block → StartsWithin block access →
+        NoPoisonShares (since_free_in run block) block.at (block.at + round_up block.size) →
+        NoUnpoisonShares (since_free_in run block) block.at (block.at + round_up block.size) →
+        fault_in run (access_event is_store access)
+        ≡ Some (fault.Access is_store access.width access.at access.at class.HeapUseAfterFree
+        (code_of Freed)) }
+{}
+
+/// A run that releases nothing holds each block that it ever freed, so all of that is reported of
+/// it, however long ago the free was.
+pub fn a_run_that_releases_nothing_forgets_no_block()
+    ensures { (before later : List Event) (block : Extent) (p : Place) →
+        Contains (live_in (without_release before)) block → p.at ≡ block.at →
+        Contains (held_in (without_release (later ++ event.Free p ∷ before))) block }
+{}
