@@ -28,6 +28,7 @@ mod LeanNumbers
 mod LeanFaults
 mod Book
 mod Shown
+mod RunShown
 mod StatedBlocks
 mod Known
 mod NewSegment

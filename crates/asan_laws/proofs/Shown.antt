@@ -45,7 +45,7 @@ whole_granules : (from to granule : ℕ) → from % 8 ≡ 0 → to % 8 ≡ 0
     → (leb (from / 8) granule && ltb granule (to / 8)) ≡ lies_in from to (8 * granule)
 whole_granules from to granule low high = grind (arith, nat_tests)
 
-one_fill : (from to code granule : ℕ) → IsMark (Fill from to code) → (ms : List Mark) → AreMarks ms →
+pub one_fill : (from to code granule : ℕ) → IsMark (Fill from to code) → (ms : List Mark) → AreMarks ms →
     lift (state_of (Fill from to code ∷ ms)) granule ≡ filled_byte from to code granule (lift (state_of ms) granule)
 one_fill from to code granule is ms ok =
     sym (fill_makes from to code is ms ok granule (lift (state_of ms) granule) refl)

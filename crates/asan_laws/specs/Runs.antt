@@ -3,21 +3,28 @@
 -- A run has its newest step first, as a history has its newest event. A freed block is held until
 -- the run releases it, which it may do at any time after the free, or never: no bound and no order
 -- says when. Redzones, marks and verdicts are those of a history.
-use Rattle.std.specs.Prelude.{ℕ, ◌+◌, Bool, not, ◌&&◌, ◌||◌, ◌==◌, if◌then◌else◌, List, [], ◌∷◌}
-use Rattle.std.specs.Prelude.{◌++◌, length, filter, map, Option, Some, None, option_to_list, true, false}
+use Rattle.std.specs.Prelude.{ℕ, ◌≡◌, ◌+◌, ◌≤◌, Bool, true, false, not, ◌&&◌, ◌||◌, ◌==◌}
+use Rattle.std.specs.Prelude.{if◌then◌else◌, List, [], ◌∷◌, ◌++◌, length, filter, map, Contains}
+use Rattle.std.specs.Prelude.{Option, Some, None, option_to_list}
 use Rattle.std.specs.List.{list_any}
 use Rattle.std.specs.Option.{option_map}
 use Rattle.trace_record.specs.declared.event.Event.{Event}
 use Rattle.trace_record.specs.declared.event.Event.TheVariants as event
-use Rattle.shadow_map.specs.States.{Mark, Block, state_of, lift}
+use Rattle.trace_record.specs.declared.shade.Shade.{Shade}
+use Rattle.trace_record.specs.Shades.{shade_size, shade_kind}
+use Rattle.shadow_map.specs.States.{HeapRedzone, code_of, Mark, Block, state_of, lift}
+use Rattle.shadow_map.specs.Granules.{block_byte}
 use Rattle.heap_book.specs.Spans.{Extent, may_be_admitted, held_of, starts_at}
+use Rattle.asan_units.specs.Units.{granule_size, first_byte}
 use Rattle.asan_check.specs.declared.report.Fault.{Fault}
 use Rattle.asan_check.specs.declared.report.Fault.TheVariants as fault
 use Rattle.asan_check.specs.declared.report.Report.{Report}
+use Rattle.asan_check.specs.Codes.{Freed, code_of_kind}
 use Rattle.asan_check.specs.History.{block_of, released_from, freed_mark, released_mark, with_marks}
 use Rattle.asan_check.specs.History.{own_marks}
 use Rattle.asan_check.specs.Verdicts.{access_fault}
-use Rattle.asan_laws.specs.Laws.{asks_for}
+use Rattle.asan_laws.specs.Laws.{asks_for, NoneCovers}
+use Rattle.asan_laws.specs.Snapshots.{NoneShares, LiesInSpan, LiesInBytes}
 
 -- what a run does next: an event of the process, or it releases the held block that starts at this
 -- address, whose memory may be used again from then on; where none is held, that is nothing
@@ -146,6 +153,38 @@ since_free_in (Does (event.Free p) ∷ run) b =
     else event.Free p ∷ since_free_in run b
 since_free_in (Does e ∷ run) b = e ∷ since_free_in run b
 since_free_in (Releases at ∷ run) b = since_free_in run b
+
+-- in the run stands this poison, in whose region the granule lies wholly, and no mark that was laid
+-- after its own covers a byte of the granule
+pub record IsPoisonedSinceIn (run : List Step) (s : Shade) (granule : ℕ) : Type 0 where
+  pub before : List Step
+  pub since : List Step
+  pub split : run ≡ since ++ Does (event.Poison s) ∷ before
+  pub whole : (s.at ≤ first_byte granule)
+      × (first_byte granule + granule_size ≤ s.at + shade_size s)
+  pub laid : List Mark
+  pub laid_since : marks_in run ≡ laid ++ marks_in (Does (event.Poison s) ∷ before)
+  pub uncovered : NoneCovers laid (marks_in (Does (event.Poison s) ∷ before)) granule
+
+-- what stands in a granule after a run says its shadow byte
+pub data IsShownIn (run : List Step) (granule : ℕ) : ℕ → Type 0 where
+  -- it lies in the span of a live block, and no poison and no unpoison since the block's malloc
+  -- came near it: it has what the block's malloc gave to it
+  in_live : (b : Extent) → Contains (live_in run) b → LiesInSpan b granule
+      → NoneShares (since_malloc_in run b) granule
+      → IsShownIn run granule (block_byte b.at b.size granule 0)
+  -- it lies in the bytes of a held block, and none since the block's free did: it is freed memory
+  in_held : (b : Extent) → Contains (held_in run) b → LiesInBytes b granule
+      → NoneShares (since_free_in run b) granule → IsShownIn run granule (code_of Freed)
+  -- it lies in the redzones of a held block, and none since the block's malloc did
+  around_held : (b : Extent) → Contains (held_in run) b → LiesInSpan b granule
+      → ¬ LiesInBytes b granule → NoneShares (since_malloc_in run b) granule
+      → IsShownIn run granule (code_of HeapRedzone)
+  -- it lies wholly in the region of a poison, and no mark that was laid since covers a byte of it
+  in_poison : (s : Shade) → IsPoisonedSinceIn run s granule
+      → IsShownIn run granule (code_of_kind (shade_kind s))
+  -- no mark covers a byte of it: it is addressable, as all memory is at first
+  untouched : NoneCovers (marks_in run) [] granule → IsShownIn run granule 0
 
 -- ---- the run of a history
 

@@ -29,7 +29,7 @@ ghost use Rattle.asan_laws.specs.Recording.{Detail, shadow_bytes, addressable_by
 ghost use Rattle.asan_laws.specs.Runs.{Step, Does, events_of, live_in, held_in, shadow_in};
 ghost use Rattle.asan_laws.specs.Runs.{fault_in, faults_in, verdicts_in};
 ghost use Rattle.asan_laws.specs.Runs.{since_malloc_in, since_free_in};
-ghost use Rattle.asan_laws.specs.Runs.{with_quarantine};
+ghost use Rattle.asan_laws.specs.Runs.{with_quarantine, IsShownIn};
 ghost use Rattle.asan_laws.specs.LeanRecording.{EachHeldFits, FindsInRun, IsAsInRun};
 ghost use Rattle.asan_laws.specs.LeanRecording.{AreReportedInRun};
 ghost use Rattle.asan_laws.specs.LeanRecording.{RecordsLeanly, lean_numbers, RecordsInSegments};
@@ -214,15 +214,21 @@ pub fn a_poison_can_state_a_granule()
         shadow_after bound (e ∷ recorded) granule ≡ shadow_after bound recorded granule }
 {}
 
-/// What stands in a granule says its shadow byte: a live or a held block, poison, or nothing that
-/// was ever marked. So a recorder that keeps no shadow of its recording can look at its book, and
-/// an access finds the same if what the book shows is what the run has.
+/// What stands in a granule says its shadow byte, in a history as in a run: a live or a held block,
+/// poison, or nothing that was ever marked. So a recorder that keeps no shadow of its recording can
+/// look at its book, and an access finds the same if what the book shows is what the run has.
 pub fn what_stands_in_a_granule_says_its_shadow_byte()
     ensures byte { (bound : ℕ) (past : List Event) (granule shadow : ℕ) →
         IsShown bound past granule shadow → shadow_after bound past granule ≡ shadow }
     ensures same { (bound : ℕ) (recorded run : List Event) (granule shadow : ℕ) →
         IsShown bound recorded granule shadow → IsShown bound run granule shadow →
         IsSameAt bound recorded run granule }
+    ensures in_run { (run : List Step) (granule shadow : ℕ) →
+        IsShownIn run granule shadow → shadow_in run granule ≡ shadow }
+    ensures as_in_run { (bound : ℕ) (recorded : List Event) (run : List Step)
+        (granule shadow : ℕ) →
+        IsShown bound recorded granule shadow → IsShownIn run granule shadow →
+        IsAsInRun bound recorded run granule }
     ensures finds { (bound : ℕ) (recorded : List Event) (run : List Step) (access : Access) →
         IsShownForAccess bound recorded run access →
         FindsInRun bound shadow_bytes recorded run access }

@@ -35,5 +35,5 @@ pub use recording::{
 };
 pub use runs::{
     a_run_reports_what_comes_to_a_held_block, a_run_that_releases_nothing_forgets_no_block,
-    a_run_with_one_quarantine_is_as_its_history,
+    a_run_with_one_quarantine_is_as_its_history, a_shadow_can_follow_a_run,
 };

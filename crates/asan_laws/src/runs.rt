@@ -3,26 +3,31 @@
 //! contract is the law.
 
 ghost use Rattle.std.specs.Prelude.{◌≡◌, ◌+◌, ◌∷◌, ◌++◌, ℕ, List, Some, Contains, false, Bool};
-ghost use Rattle.std.specs.Prelude.{IsTrue};
+ghost use Rattle.std.specs.Prelude.{IsTrue, []};
+ghost use Rattle.std.specs.List.{list_any};
 ghost use Rattle.trace_record.specs.declared.event.Event.{Event};
 ghost use Rattle.trace_record.specs.declared.event.Event.TheVariants as event;
 ghost use Rattle.trace_record.specs.declared.event.Access.{Access};
 ghost use Rattle.trace_record.specs.declared.event.Place.{Place};
 ghost use Rattle.trace_record.specs.declared.event.Region.{Region};
 ghost use Rattle.shadow_map.specs.States.{code_of};
-ghost use Rattle.heap_book.specs.Spans.{Extent, meets};
+ghost use Rattle.shadow_map.specs.Granules.{block_byte};
+ghost use Rattle.heap_book.specs.Spans.{Extent, meets, starts_at};
 ghost use Rattle.asan_units.specs.Units.{round_up};
 ghost use Rattle.asan_check.specs.declared.report.Class.TheVariants as class;
 ghost use Rattle.asan_check.specs.declared.report.Fault.TheVariants as fault;
 ghost use Rattle.asan_check.specs.Codes.{Freed};
 ghost use Rattle.asan_check.specs.History.{block_of, live, held, marks};
-ghost use Rattle.asan_check.specs.Verdicts.{fault_of, verdicts_of};
+ghost use Rattle.asan_check.specs.Verdicts.{fault_of, verdicts_of, is_access};
 ghost use Rattle.asan_laws.specs.Laws.{since_malloc, since_free, NoPoisonShares, NoUnpoisonShares};
 ghost use Rattle.asan_laws.specs.Laws.{StartsWithin, access_event};
-ghost use Rattle.asan_laws.specs.Runs.{Step, events_of, live_in, held_in, admits_in, marks_in};
+ghost use Rattle.asan_laws.specs.Snapshots.{is_shade};
+ghost use Rattle.asan_laws.specs.Runs.{Step, Does, Releases, events_of, live_in, held_in};
+ghost use Rattle.asan_laws.specs.Runs.{admits_in, marks_in, shadow_in};
 ghost use Rattle.asan_laws.specs.Runs.{fault_in, verdicts_in, since_malloc_in, since_free_in};
 ghost use Rattle.asan_laws.specs.Runs.{with_quarantine, without_release};
 ghost use Rattle.asan_laws.specs.LeanRecording.{EachHeldFits};
+ghost use Rattle.asan_laws.specs.LeanRecording.{freed_byte, released_byte, shaded_byte};
 
 /// The run that does the events of a history with one quarantine, a queue of `bound` bytes, is as
 /// the history says: it has the same events, blocks and marks, the same is wrong with an event
@@ -63,6 +68,32 @@ pub fn a_run_reports_what_comes_to_a_held_block()
         fault_in run (access_event is_store access)
         ≡ Some (fault.Access is_store access.width access.at access.at class.HeapUseAfterFree
         (code_of Freed)) }
+{}
+
+/// What each step of a run makes of a granule's shadow byte. So a recorder whose own shadow does as
+/// these say has the run's.
+pub fn a_shadow_can_follow_a_run()
+    ensures malloc { (run : List Step) (r : Region) (granule : ℕ) →
+        IsTrue (admits_in run (block_of r)) →
+        shadow_in (Does (event.Malloc r) ∷ run) granule
+        ≡ block_byte r.at r.size granule (shadow_in run granule) }
+    ensures free { (run : List Step) (p : Place) (b : Extent) (granule : ℕ) →
+        Contains (live_in run) b → b.at ≡ p.at →
+        shadow_in (Does (event.Free p) ∷ run) granule
+        ≡ freed_byte b granule (shadow_in run granule) }
+    ensures release { (run : List Step) (b : Extent) (granule : ℕ) → Contains (held_in run) b →
+        shadow_in (Releases b.at ∷ run) granule
+        ≡ released_byte (b ∷ []) granule (shadow_in run granule) }
+    ensures shade { (run : List Step) (e : Event) (granule : ℕ) → IsTrue (is_shade e) →
+        shadow_in (Does e ∷ run) granule ≡ shaded_byte e granule (shadow_in run granule) }
+    ensures access { (run : List Step) (e : Event) (granule : ℕ) → IsTrue (is_access e) →
+        shadow_in (Does e ∷ run) granule ≡ shadow_in run granule }
+    ensures refused { (run : List Step) (r : Region) (granule : ℕ) →
+        admits_in run (block_of r) ≡ false →
+        shadow_in (Does (event.Malloc r) ∷ run) granule ≡ shadow_in run granule }
+    ensures bad_free { (run : List Step) (p : Place) (granule : ℕ) →
+        list_any (starts_at p.at) (live_in run) ≡ false →
+        shadow_in (Does (event.Free p) ∷ run) granule ≡ shadow_in run granule }
 {}
 
 /// A run that releases nothing holds each block that it ever freed, so all of that is reported of
