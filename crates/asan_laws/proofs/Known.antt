@@ -1,13 +1,12 @@
 -- Which shadow bytes there are after a run.
-use Rattle.std.proofs.Common.{◌≡◌, ℕ, ◌+◌, ◌-◌, ◌*◌, ◌/◌, ◌<◌, ◌≤◌, ◌^◌, Bool, true, false, cond, eqb, leb, ltb}
+use Rattle.std.proofs.Common.{◌≡◌, ℕ, ◌+◌, ◌-◌, ◌*◌, ◌<◌, ◌≤◌, ◌^◌, Bool, true, false, cond, eqb, leb, ltb}
 use Rattle.std.proofs.Common.{List, [], ◌∷◌, ◌++◌, Some, None, refl, sym, subst, arith, inl, inr}
-use Rattle.std.specs.Prelude.{◌⊎◌, Contains, filter, not, unwrap_or}
+use Rattle.std.specs.Prelude.{Contains, filter, not, unwrap_or}
 use Rattle.std.proofs.lemmas.Bool.{cases_Bool, both_ways, leb-true, ltb-true, and_parts, not_from_false}
 use Rattle.std.proofs.lemmas.Bool.Decides.{nat_tests}
 use Rattle.std.proofs.lemmas.List.Elements.{Contains-append_left, Contains-append_right}
 use Rattle.trace_record.specs.declared.event.Event.TheVariants as event
 use Rattle.trace_record.specs.declared.shade.Kind.{Kind}
-use Rattle.trace_record.specs.declared.shade.Kind.TheVariants as kind
 use Rattle.trace_record.specs.Shades.{shade_size, shade_kind}
 use Rattle.shadow_map.specs.States.{State, Addressable, Coded, HeapRedzone, Mark, Block, code_of, lies_in, state_of}
 use Rattle.shadow_map.specs.States.{granule_lies_in, shadow_byte}

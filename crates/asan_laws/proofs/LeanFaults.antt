@@ -23,8 +23,7 @@ use Rattle.asan_laws.specs.Recording.{HaveBlocksBut, HaveSameBlocks, Detail, sha
 use Rattle.asan_laws.specs.Recording.{Records, Finds, without_class, IsSameButForClass, IsReportedOfOne}
 use Rattle.asan_laws.specs.Recording.{is_of_block, ShowAsMuch}
 use Rattle.asan_laws.specs.Recording as full
-use Rattle.asan_laws.specs.Runs.{Step, Does, Releases, marks_in, fault_in, verdicts_in, faults_in, releasing}
-use Rattle.asan_laws.specs.Runs.{with_quarantine}
+use Rattle.asan_laws.specs.Runs.{Step, Does, marks_in, fault_in, verdicts_in, faults_in, with_quarantine}
 use Rattle.asan_laws.specs.LeanRecording.{RecordsLeanly, lean_numbers, RecordsInSegments, no_segment, one_more}
 use Rattle.asan_laws.specs.LeanRecording.{FindsItsBlock, FindsInRun, AreReportedInRun}
 use Rattle.asan_laws.specs.LeanRecording as lean
@@ -33,7 +32,7 @@ use Rattle.asan_laws.proofs.Faults.{seen_alike, map_itself, say_by_class}
 use Rattle.asan_laws.proofs.Finding.{found_same, found_as_many}
 use Rattle.asan_laws.proofs.LeanReported.{SaysAlike, lean_alike}
 use Rattle.asan_laws.proofs.Marks.{are_marks}
-use Rattle.asan_laws.proofs.Quarantine.{gone, as_history, admits_same, fault_is}
+use Rattle.asan_laws.proofs.Quarantine.{as_history, admits_same, fault_is, goes_on}
 use Rattle.asan_laws.proofs.Reported.{keeps}
 use Rattle.asan_laws.proofs.RunBlocks.{are_marks_in}
 use Rattle.asan_laws.proofs.SameBlocks.{say_the_same, same_admits, same_any}
@@ -206,37 +205,27 @@ module _ (bound : ℕ) (detail : Detail) (first past : List Event) (start : Have
   finds_as_much recorded run a finds =
       subst (λ ms. ShowAsMuch detail (marks bound recorded) ms a) (sym (as_history bound run).marks_are) finds
 
-  -- the releases that follow a free
-  released : (bs : List Extent) (recorded : List Event) (run : List Step)
-      → RecordsLeanly bound detail first (with_quarantine bound past) recorded run
-      → RecordsLeanly bound detail first (with_quarantine bound past) recorded (releasing bs run)
-  released [] recorded run way = way
-  released (b ∷ bs) recorded run way =
-      released bs recorded (Releases b.at ∷ run) (lean.releases b.at recorded run way)
-
-  goes_on : (e : Event) (recorded run : List Event)
+  -- one more event of the run, which has a quarantine
+  next : (e : Event) (recorded run : List Event)
       → RecordsLeanly bound detail first (with_quarantine bound past) recorded (Does e ∷ with_quarantine bound run)
       → RecordsLeanly bound detail first (with_quarantine bound past) recorded (with_quarantine bound (e ∷ run))
-  goes_on (event.Free p) recorded run way =
-      released (gone bound (Does (event.Free p) ∷ with_quarantine bound run)) recorded
-      (Does (event.Free p) ∷ with_quarantine bound run) way
-  goes_on e recorded run way = way
+  next e recorded run way = goes_on bound detail first (with_quarantine bound past) recorded run e way
 
   pub full_is_lean : (recorded run : List Event) → Records bound detail first past recorded run
       → RecordsLeanly bound detail first (with_quarantine bound past) recorded (with_quarantine bound run)
   full_is_lean recorded run full.begins = lean.begins
   full_is_lean recorded run (full.block e t f is way) =
-      goes_on e (e ∷ t) f (lean.block e t (with_quarantine bound f) (finds_block t f (blocks t f way) e is)
+      next e (e ∷ t) f (lean.block e t (with_quarantine bound f) (finds_block t f (blocks t f way) e is)
       (full_is_lean t f way))
   full_is_lean recorded run (full.access is_store a t f finds way) =
-      goes_on (access_event is_store a) (access_event is_store a ∷ t) f
+      next (access_event is_store a) (access_event is_store a ∷ t) f
       (lean.access is_store a t (with_quarantine bound f) (finds_as_much t f a finds) (full_is_lean t f way))
   full_is_lean recorded run (full.leaves_out_access e t f is good way) =
-      goes_on e t f (lean.leaves_out_access e t (with_quarantine bound f) is (fault_is bound f e ∙ good)
+      next e t f (lean.leaves_out_access e t (with_quarantine bound f) is (fault_is bound f e ∙ good)
       (full_is_lean t f way))
   full_is_lean recorded run (full.says_nothing e t f is good way) =
       lean.says_nothing e t (with_quarantine bound f) is good (full_is_lean t f way)
   full_is_lean recorded run (full.leaves_out_shade e t f is way) =
-      goes_on e t f (lean.leaves_out_shade e t (with_quarantine bound f) is (full_is_lean t f way))
+      next e t f (lean.leaves_out_shade e t (with_quarantine bound f) is (full_is_lean t f way))
   full_is_lean recorded run (full.states e t f is way) =
       lean.states e t (with_quarantine bound f) is (full_is_lean t f way)

@@ -6,7 +6,8 @@ use Rattle.trace_record.specs.declared.event.Event.{Event}
 use Rattle.asan_laws.specs.Laws.{access_event}
 use Rattle.asan_laws.specs.Recording.{HasNumber, IsBefore, Detail}
 use Rattle.asan_laws.specs.LeanRecording.{RecordsLeanly, lean_numbers, begins, block, access, leaves_out_block}
-use Rattle.asan_laws.specs.LeanRecording.{states_block, releases, leaves_out_access, says_nothing, leaves_out_shade, states}
+use Rattle.asan_laws.specs.LeanRecording.{states_block, releases, leaves_out_access, says_nothing}
+use Rattle.asan_laws.specs.LeanRecording.{leaves_out_shade, states}
 use Rattle.asan_laws.specs.Runs.{Step, events_of}
 use Rattle.asan_check.proofs.Members.{in_none}
 use Rattle.asan_laws.proofs.Numbers.{IsInBoth, pushed, run_longer, recording_longer, number_within, is_before_push}
@@ -19,15 +20,21 @@ module _ (bound : ℕ) (detail : Detail) (first : List Event) (past : List Step)
   numbered recorded run (block e t f finds way) m n has =
       pushed bound detail first [] t (events_of f) (lean_numbers way) e (numbered t f way) m n has
   numbered recorded run (access is_store a t f finds way) m n has =
-      pushed bound detail first [] t (events_of f) (lean_numbers way) (access_event is_store a) (numbered t f way) m n has
-  numbered recorded run (leaves_out_block e t f is good way) m n has = run_longer t (events_of f) e m n (numbered t f way m n has)
-  numbered recorded run (states_block e t f may way) m n has = recording_longer t (events_of f) e m n (numbered t f way m n has)
+      pushed bound detail first [] t (events_of f) (lean_numbers way) (access_event is_store a)
+      (numbered t f way) m n has
+  numbered recorded run (leaves_out_block e t f is good way) m n has =
+      run_longer t (events_of f) e m n (numbered t f way m n has)
+  numbered recorded run (states_block e t f may way) m n has =
+      recording_longer t (events_of f) e m n (numbered t f way m n has)
   numbered recorded run (releases at t f way) m n has = numbered t f way m n has
-  numbered recorded run (leaves_out_access e t f is good way) m n has = run_longer t (events_of f) e m n (numbered t f way m n has)
+  numbered recorded run (leaves_out_access e t f is good way) m n has =
+      run_longer t (events_of f) e m n (numbered t f way m n has)
   numbered recorded run (says_nothing e t f is good way) m n has =
       recording_longer t (events_of f) e m n (numbered t f way m n has)
-  numbered recorded run (leaves_out_shade e t f is way) m n has = run_longer t (events_of f) e m n (numbered t f way m n has)
-  numbered recorded run (states e t f is way) m n has = recording_longer t (events_of f) e m n (numbered t f way m n has)
+  numbered recorded run (leaves_out_shade e t f is way) m n has =
+      run_longer t (events_of f) e m n (numbered t f way m n has)
+  numbered recorded run (states e t f is way) m n has =
+      recording_longer t (events_of f) e m n (numbered t f way m n has)
 
   pub lean_event : (recorded : List Event) (run : List Step)
       (way : RecordsLeanly bound detail first past recorded run) (m n : ℕ)

@@ -13,7 +13,7 @@ use Rattle.trace_record.specs.declared.event.Place.{Place}
 use Rattle.heap_book.specs.Spans.{starts_at}
 use Rattle.asan_check.specs.declared.report.Fault.{Fault}
 use Rattle.asan_check.specs.declared.report.Fault.TheVariants as fault
-use Rattle.asan_check.specs.History.{live, held}
+use Rattle.asan_check.specs.History.{held}
 use Rattle.asan_check.specs.Verdicts.{fault_of, verdict, verdicts_of}
 use Rattle.asan_laws.specs.Laws.{access_event}
 use Rattle.asan_laws.specs.Snapshots.{is_shade}

@@ -25,10 +25,11 @@ use Rattle.asan_check.specs.Verdicts.{access_fault, fault_of, verdicts_of}
 use Rattle.asan_check.proofs.Members.{in_none, in_head, cons_cases, at_element, passes_any, none_from, filter_all}
 use Rattle.asan_check.proofs.Members.{filter_none, apart_starts, apart_across, apart_right, starts_once}
 use Rattle.asan_check.proofs.Steps.{live_free, live_malloc, held_free, held_malloc}
-use Rattle.asan_laws.specs.Runs.{Step, Does, Releases, events_of, live_in, held_in, admits_in, marks_in, fault_in}
-use Rattle.asan_laws.specs.LeanRecording.{EachHeldFits}
-use Rattle.asan_laws.specs.Runs.{verdict_in, verdicts_in, releasing, within_bound, with_quarantine, since_malloc_in, since_free_in}
 use Rattle.asan_laws.specs.Laws.{asks_for, since_malloc, since_free}
+use Rattle.asan_laws.specs.Recording.{Detail}
+use Rattle.asan_laws.specs.Runs.{Step, Does, Releases, events_of, live_in, held_in, admits_in, marks_in, fault_in}
+use Rattle.asan_laws.specs.Runs.{verdict_in, verdicts_in, since_malloc_in, since_free_in, releasing, with_quarantine}
+use Rattle.asan_laws.specs.LeanRecording.{EachHeldFits, RecordsLeanly, releases}
 use Rattle.asan_laws.proofs.RunBlocks.{live_malloc_in, live_refused_in, apart_in}
 
 -- ---- releases, one after the other
@@ -89,7 +90,7 @@ release_all (b ∷ front) now run is apart =
           ∙ ap (λ bs. with_marks released_mark bs (marks_in run)) alone);
     }
 
-abbrev pub gone : ℕ → List Step → List Extent
+abbrev gone : ℕ → List Step → List Extent
 gone bound run = released_from (held_in run) (held_of bound (held_in run))
 
 within_is : (bound : ℕ) (run : List Step) → Released (gone bound run) (held_of bound (held_in run)) run
@@ -293,3 +294,19 @@ pub since_is : (bound : ℕ) (past : List Event) (b : Extent) →
     (since_malloc_in (with_quarantine bound past) b ≡ since_malloc bound past b)
     × (since_free_in (with_quarantine bound past) b ≡ since_free bound past b)
 since_is bound past b = (since_malloc_is bound past b, since_free_is bound past b)
+
+-- ---- recordings of it
+
+-- the releases that follow an event
+module _ (bound : ℕ) (detail : Detail) (first : List Event) (past : List Step) (recorded : List Event) where
+  then_released : (bs : List Extent) (run : List Step) → RecordsLeanly bound detail first past recorded run
+      → RecordsLeanly bound detail first past recorded (releasing bs run)
+  then_released [] run way = way
+  then_released (b ∷ bs) run way = then_released bs (Releases b.at ∷ run) (releases b.at recorded run way)
+
+  pub goes_on : (run : List Event) (e : Event)
+      → RecordsLeanly bound detail first past recorded (Does e ∷ with_quarantine bound run)
+      → RecordsLeanly bound detail first past recorded (with_quarantine bound (e ∷ run))
+  goes_on run (event.Free p) way =
+      let next = Does (event.Free p) ∷ with_quarantine bound run in then_released (gone bound next) next way
+  goes_on run e way = way

@@ -8,7 +8,6 @@ use Rattle.std.proofs.lemmas.Bool.{eqb-true, eq-eqb}
 use Rattle.std.proofs.lemmas.Bool.Decides.{nat_tests}
 use Rattle.std.proofs.lemmas.List.Elements.{Contains-append_left, Contains-append_right, Contains-append_cases}
 use Rattle.std.proofs.lemmas.List.Elements.{Contains-push_cases}
-use Rattle.trace_record.specs.declared.event.Event.{Event}
 use Rattle.trace_record.specs.declared.event.Event.TheVariants as event
 use Rattle.trace_record.specs.declared.event.Place.{Place}
 use Rattle.trace_record.specs.declared.event.Region.{Region}
@@ -25,7 +24,8 @@ use Rattle.asan_laws.specs.Laws.{asks_for}
 use Rattle.asan_laws.specs.Runs.{Step, Does, Releases, live_in, held_in, admits_in, marks_in, since_malloc_in}
 use Rattle.asan_laws.specs.Runs.{since_free_in}
 use Rattle.asan_laws.proofs.Blocks.{admitted_apart}
-use Rattle.asan_laws.proofs.Bytes.{NeitherShares, NeitherShares-tail, own_marks_leave, own_byte, bytes_in_span, rounds_up}
+use Rattle.asan_laws.proofs.Bytes.{NeitherShares, NeitherShares-tail, own_marks_leave, own_byte, bytes_in_span}
+use Rattle.asan_laws.proofs.Bytes.{rounds_up}
 use Rattle.asan_laws.proofs.Frames.{IsInSpan, block_leaves, freed_leaves, released_leaves, marked_leaves}
 use Rattle.asan_laws.proofs.Members.{any_passes, apart_beside}
 use Rattle.asan_laws.proofs.RunBlocks.{live_malloc_in, live_refused_in, apart_in}

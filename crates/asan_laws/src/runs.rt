@@ -22,16 +22,18 @@ ghost use Rattle.asan_check.specs.Verdicts.{fault_of, verdicts_of, is_access};
 ghost use Rattle.asan_laws.specs.Laws.{since_malloc, since_free, NoPoisonShares, NoUnpoisonShares};
 ghost use Rattle.asan_laws.specs.Laws.{StartsWithin, access_event};
 ghost use Rattle.asan_laws.specs.Snapshots.{is_shade};
+ghost use Rattle.asan_laws.specs.Recording.{Detail};
 ghost use Rattle.asan_laws.specs.Runs.{Step, Does, Releases, events_of, live_in, held_in};
 ghost use Rattle.asan_laws.specs.Runs.{admits_in, marks_in, shadow_in};
 ghost use Rattle.asan_laws.specs.Runs.{fault_in, verdicts_in, since_malloc_in, since_free_in};
 ghost use Rattle.asan_laws.specs.Runs.{with_quarantine, without_release};
-ghost use Rattle.asan_laws.specs.LeanRecording.{EachHeldFits};
-ghost use Rattle.asan_laws.specs.LeanRecording.{freed_byte, released_byte, shaded_byte};
+ghost use Rattle.asan_laws.specs.LeanRecording.{EachHeldFits, RecordsLeanly, freed_byte};
+ghost use Rattle.asan_laws.specs.LeanRecording.{released_byte, shaded_byte};
 
 /// The run that does the events of a history with one quarantine, a queue of `bound` bytes, is as
 /// the history says: it has the same events, blocks and marks, the same is wrong with an event
-/// after it, and the verdicts on it are the same. Each block that it holds fits into the queue.
+/// after it, and the verdicts on it are the same. Each block that it holds fits into the queue. A
+/// lean recording of it as it has done an event is one of it after the releases that follow, too.
 pub fn a_run_with_one_quarantine_is_as_its_history()
     ensures events { (bound : ℕ) (past : List Event) →
         events_of (with_quarantine bound past) ≡ past }
@@ -47,7 +49,12 @@ pub fn a_run_with_one_quarantine_is_as_its_history()
         fault_in (with_quarantine bound past) e ≡ fault_of bound past e }
     ensures verdicts { (bound : ℕ) (past : List Event) →
         verdicts_in (with_quarantine bound past) ≡ verdicts_of bound past }
-    ensures fits { (bound : ℕ) (past : List Event) → EachHeldFits bound (with_quarantine bound past) }
+    ensures fits { (bound : ℕ) (past : List Event) →
+        EachHeldFits bound (with_quarantine bound past) }
+    ensures recorded { (bound : ℕ) (detail : Detail) (first : List Event) (past : List Step)
+        (recorded run : List Event) (e : Event) →
+        RecordsLeanly bound detail first past recorded (Does e ∷ with_quarantine bound run) →
+        RecordsLeanly bound detail first past recorded (with_quarantine bound (e ∷ run)) }
 {}
 
 /// What a run says of a block that it holds: a second free of it is a double free, its memory is

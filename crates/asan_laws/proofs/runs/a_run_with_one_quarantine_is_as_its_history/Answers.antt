@@ -1,4 +1,4 @@
-use Rattle.asan_laws.proofs.Quarantine.{as_history, events_are, since_is, fault_is, verdicts_are, each_fits}
+use Rattle.asan_laws.proofs.Quarantine.{as_history, events_are, since_is, fault_is, verdicts_are, each_fits, goes_on}
 use Rattle.asan_laws.proofs.runs.a_run_with_one_quarantine_is_as_its_history.Goals as goal
 
 pub returns-clause-events : goal.returns-clause-events
@@ -21,3 +21,6 @@ returns-clause-verdicts c = verdicts_are
 
 pub returns-clause-fits : goal.returns-clause-fits
 returns-clause-fits c = each_fits
+
+pub returns-clause-recorded : goal.returns-clause-recorded
+returns-clause-recorded c = goes_on
