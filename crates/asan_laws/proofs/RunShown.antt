@@ -86,6 +86,12 @@ module _ (run : List Step) where
       ap (λ bs. lift (state_of (with_marks freed_mark bs (marks_in run))) granule)
       (filter_none (starts_at p.at) (live_in run) (λ x has. none_passes (starts_at p.at) (live_in run) x none has))
 
+  pub none_released_makes : (at granule : ℕ) → list_any (starts_at at) (held_in run) ≡ false
+      → shadow_in (Releases at ∷ run) granule ≡ shadow_in run granule
+  none_released_makes at granule none =
+      ap (λ bs. lift (state_of (with_marks released_mark bs (marks_in run))) granule)
+      (filter_none (starts_at at) (held_in run) (λ x has. none_passes (starts_at at) (held_in run) x none has))
+
 -- ---- what stands there
 
 module _ (run : List Step) (granule : ℕ) where

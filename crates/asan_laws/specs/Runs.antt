@@ -68,6 +68,7 @@ blocks_after (Does e) blocks = blocks
 blocks_after (Releases at) blocks =
     record { live = blocks.live; held = filter (λ b. not (starts_at at b)) blocks.held }
 
+-- the blocks of a run, which has none at first
 abbrev pub blocks_of : List Step → Blocks
 blocks_of [] = record { live = []; held = [] }
 blocks_of (step ∷ run) = blocks_after step (blocks_of run)

@@ -101,6 +101,9 @@ pub fn a_shadow_can_follow_a_run()
     ensures bad_free { (run : List Step) (p : Place) (granule : ℕ) →
         list_any (starts_at p.at) (live_in run) ≡ false →
         shadow_in (Does (event.Free p) ∷ run) granule ≡ shadow_in run granule }
+    ensures none_released { (run : List Step) (at granule : ℕ) →
+        list_any (starts_at at) (held_in run) ≡ false →
+        shadow_in (Releases at ∷ run) granule ≡ shadow_in run granule }
 {}
 
 /// A run that releases nothing holds each block that it ever freed, so all of that is reported of

@@ -1,5 +1,5 @@
 use Rattle.asan_laws.proofs.RunShown.{malloc_makes, free_makes, release_makes, shade_makes, access_makes}
-use Rattle.asan_laws.proofs.RunShown.{refused_makes, bad_free_makes}
+use Rattle.asan_laws.proofs.RunShown.{refused_makes, bad_free_makes, none_released_makes}
 use Rattle.asan_laws.proofs.runs.a_shadow_can_follow_a_run.Goals as goal
 
 pub returns-clause-malloc : goal.returns-clause-malloc
@@ -22,3 +22,6 @@ returns-clause-refused c = refused_makes
 
 pub returns-clause-bad_free : goal.returns-clause-bad_free
 returns-clause-bad_free c = bad_free_makes
+
+pub returns-clause-none_released : goal.returns-clause-none_released
+returns-clause-none_released c = none_released_makes
