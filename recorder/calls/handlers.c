@@ -9,7 +9,7 @@
 
 REAL(int, sigaction, (int, const struct sigaction *, struct sigaction *));
 
-GUARD_OWN(sigaction);
+GUARD_INTERCEPTED(sigaction);
 CHECK int checked_sigaction(int number, const struct sigaction *action, struct sigaction *old)
 {
     return HAS_HOOKS ? asancol_hooks.set_action(number, action, old) : real_sigaction(number, action, old);
@@ -23,7 +23,7 @@ static sighandler_t set_handler(int number, sighandler_t handler, int flags)
     return checked_sigaction(number, &action, &old) == 0 ? old.sa_handler : SIG_ERR;
 }
 
-GUARD_OWN(signal);
+GUARD_INTERCEPTED(signal);
 CHECK sighandler_t checked_signal(int number, sighandler_t handler)
 {
     return set_handler(number, handler, SA_RESTART);

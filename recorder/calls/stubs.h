@@ -106,7 +106,8 @@ _Static_assert(SHADOW_START == 0x7fff8000 && ADDRESS_END >> 47 == 1 && GRANULE =
 /* For a function whose effect depends on its caller, and that the program calls to end, to go on otherwise or to give
    memory another use: what it does is seen as long as the name is not the object's own, or the program's. Before the
    recorder's start, as from .preinit_array, it is not. */
-#define GUARD_OWN_OF_CALLER(name)                                                                                      \
+#define GUARD_OWN_OF_CALLER(name) GUARD_OWN_BUT(name, "")
+#define GUARD_OWN_BUT(name, first)                                                                                     \
     __asm__(".pushsection .text\n"                                                                                     \
             ".p2align 4\n" BIND("__wrap_" #name)                                                                       \
                 HIDE("__wrap_" #name) ".type __wrap_" #name ",@function\n__wrap_" #name ":\n.L__wrap_" #name ":\n"     \
@@ -114,8 +115,7 @@ _Static_assert(SHADOW_START == 0x7fff8000 && ADDRESS_END >> 47 == 1 && GRANULE =
                                       "\tendbr64\n"                                                                    \
                                       "\tcmpq $0, asancol_own_code+8(%rip)\n"                                          \
                                       "\tje 1f\n"                                                                      \
-                                      "\tmovq __real_" #name "@GOTPCREL(%rip), %r11\n"                                 \
-                                      "\tmovq %r11, %r10\n"                                                            \
+                                      "\tmovq __real_" #name "@GOTPCREL(%rip), %r11\n" first "\tmovq %r11, %r10\n"     \
                                       "\tsubq asancol_own_code(%rip), %r10\n"                                          \
                                       "\tcmpq asancol_own_code+8(%rip), %r10\n"                                        \
                                       "\tjb 1f\n"                                                                      \
@@ -135,9 +135,19 @@ _Static_assert(SHADOW_START == 0x7fff8000 && ADDRESS_END >> 47 == 1 && GRANULE =
 #define GUARD_OWN(name)                                                                                                \
     GUARD_OWN_OF_CALLER(name);                                                                                         \
     LISTED(name)
+#define GUARD_INTERCEPTED(name)                                                                                        \
+    GUARD_OWN_BUT(name, IF_INTERCEPTED(name));                                                                         \
+    LISTED(name)
 #else
 #define GUARD_OWN(name) GUARD_OWN_OF_CALLER(name)
+#define GUARD_INTERCEPTED(name) GUARD_OWN_BUT(name, IF_INTERCEPTED(name))
 #endif
+
+/* The runtimes of Clang's sanitizers have a function of the name for the program's calls, which is the library's. */
+#define IF_INTERCEPTED(name)                                                                                           \
+    ".weak __interceptor_" #name "\n"                                                                                  \
+    "\tcmpq __interceptor_" #name "@GOTPCREL(%rip), %r11\n"                                                            \
+    "\tje checked_" #name "\n"
 
 /* For a function whose check calls another one: both have to be the library's. */
 #define STUB_OF_TWO(name, other)                                                                                       \

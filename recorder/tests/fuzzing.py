@@ -143,6 +143,59 @@ def check_libfuzzer(suite: Suite, folder: str, compiler: Compiler, is_cpp: bool)
     expect(quiet.returncode, 0, "without ASANCOL_HALT")
 
 
+# It fails an assertion, or makes a bad access.
+FAILING = """
+#include <assert.h>
+#include <stddef.h>
+#include <stdint.h>
+static char block[4];
+int LLVMFuzzerTestOneInput(const uint8_t *data, size_t size) {
+    assert(size < 2 || data[0] != 'F' || data[1] != 'A');
+    if (size > 1 && data[0] == 'F' && data[1] == 'B') *(volatile char *)(block + 4) = 1;
+    return 0; }
+"""
+
+
+def check_failing(suite: Suite, folder: str, compiler: Compiler) -> None:
+    """An input that fails is written however the process ends, recorded or not, as with AddressSanitizer."""
+    write(folder, target_c=FAILING)
+    compiler.c(folder, ["target.c"], f"{folder}/target", "-O1", "-fsanitize=fuzzer,address")
+    for text in ("FA", "FB"):
+        for settings in ({}, {"ASANCOL_TRACE": "%p.trace"}):
+            for halt in ("1", "2"):
+                os.mkdir(f"{folder}/in")
+                write(f"{folder}/in", seed=text)
+                ran = run(["./target", "-runs=100", "in"], folder, ASANCOL_HALT=halt, **settings)
+                found = glob.glob(f"{folder}/crash-*")
+                expect((ran.returncode, len(found)), (77, 1), f"{text} {halt} {settings} {ran.stderr[-500:]!r}")
+                for path in (*found, *traces(folder)):
+                    os.unlink(path)
+                shutil.rmtree(f"{folder}/in")
+
+
+# It sets a handler only if there is none, as libFuzzer does.
+ASKING = """
+#include <signal.h>
+#include <stdlib.h>
+#include <unistd.h>
+static void ends(int number) { _exit(number == SIGABRT ? 3 : 4); }
+int main(void) {
+    struct sigaction old, own = {.sa_handler = ends};
+    if (sigaction(SIGABRT, NULL, &old) != 0 || old.sa_handler != SIG_DFL) return 5;
+    if (signal(SIGTERM, SIG_IGN) != SIG_DFL || sigaction(SIGABRT, &own, NULL) != 0) return 6;
+    abort(); }
+"""
+
+
+def check_asking(suite: Suite, folder: str, compiler: Compiler) -> None:
+    """Beside a runtime of the compiler's, which has a sigaction of its own, a program does not meet our handlers."""
+    write(folder, main_c=ASKING)
+    for flags in ((), ["-fsanitize=undefined"], ["-fsanitize=undefined,address"]):
+        compiler.c(folder, ["main.c"], f"{folder}/program", *flags)
+        for settings in ({}, {"ASANCOL_TRACE": "%p.trace"}):
+            expect(run(["./program"], folder, **settings).returncode, 3, f"{flags} {settings}")
+
+
 def check_afl(suite: Suite, folder: str, compiler: Compiler) -> None:
     """AFL++ finds it too, and only the inputs that fail leave a trace."""
     write(folder, target_c=TARGET, main_c=MAIN)
@@ -187,10 +240,12 @@ def tests(suite: Suite, compiler: Compiler) -> None:
         ("limit", check_limit),
     ):
         suite.test(f"{compiler} halt {name}", check, program)
+    suite.test(f"{compiler} asks for handlers", check_asking, compiler)
     if compiler.name != "clang":
         return
     if has_libfuzzer(compiler, suite.folder):
         suite.test(f"{compiler} libFuzzer", check_libfuzzer, compiler, False)
+        suite.test(f"{compiler} libFuzzer failing", check_failing, compiler)
         if compiler.cxx:
             suite.test(f"{compiler} libFuzzer c++", check_libfuzzer, compiler, True)
     else:
