@@ -384,26 +384,36 @@ size_t heap_live_size(void *pointer)
     return size;
 }
 
+/* By realloc, which takes longer anyway. */
+static __attribute__((noinline)) void *allocate_new(size_t size, struct origin from)
+{
+    return allocate(size, ALIGNMENT, false, from);
+}
+
+static __attribute__((noinline)) void give_back_old(void *old, struct origin from, const char *call)
+{
+    struct use use = origin_take_use();
+    give_back(old, from, &use, call);
+}
+
 void *heap_move(void *old, size_t size, uintptr_t caller, const char *call)
 {
     caller = origin_caller_or(caller);
     said.frame = 0;
     struct origin from = origin_of(caller);
     if (old == NULL)
-        return allocate(size, ALIGNMENT, false, from);
+        return allocate_new(size, from);
     size_t before = heap_live_size(old);
     if (size == 0 || before == SIZE_MAX) {
-        struct use use = origin_take_use();
-        give_back(old, from, &use, call);
+        give_back_old(old, from, call);
         if (size != 0)
             errno = EINVAL;
         return NULL;
     }
-    void *moved = allocate(size, ALIGNMENT, false, from);
+    void *moved = allocate_new(size, from);
     if (moved == NULL)
         return NULL;
     program_copy(moved, old, before < size ? before : size);
-    struct use use = origin_take_use();
-    give_back(old, from, &use, call);
+    give_back_old(old, from, call);
     return moved;
 }

@@ -154,7 +154,7 @@ static inline bool is_used(uint32_t unit)
 
 /* The block whose slot or run has this address, and where that begins; or null. Another shard may be changing the
    notes, and then nobody may believe what is answered: but of a block that the thread has, or had, it is right. */
-static inline __attribute__((always_inline)) struct block *block_around(uintptr_t address, uintptr_t *start)
+static inline struct block *block_around(uintptr_t address, uintptr_t *start)
 {
     if (!arena_is_found())
         return NULL;

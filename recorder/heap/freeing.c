@@ -69,8 +69,8 @@ static bool take_from_program(struct block *block, struct block now)
 }
 
 /* A block whose address is never handed out again, or not before its unit is opened again. */
-static inline __attribute__((always_inline)) enum freeing
-free_forward(struct shard *shard, struct block *block, uintptr_t address, struct origin from, struct block now)
+static inline enum freeing free_forward(struct shard *shard, struct block *block, uintptr_t address, struct origin from,
+                                        struct block now)
 {
     uint32_t unit = unit_of(block);
     if (!take_from_program(block, now))
