@@ -55,13 +55,14 @@ static inline void visit_begin(uintptr_t frame, enum visit_place place)
     atomic_signal_fence(memory_order_seq_cst);
 }
 
+/* The frame goes last: from a jump before that it is known that the thread is inside no more. */
 static inline void visit_end(void)
 {
     this_visit.has = HAS_NOTHING;
-    this_visit.frame = UINTPTR_MAX;
     atomic_signal_fence(memory_order_seq_cst);
     this_visit.is_inside = OUTSIDE;
     atomic_signal_fence(memory_order_seq_cst);
+    this_visit.frame = UINTPTR_MAX;
 }
 
 /* What the next two functions do if there is more to do. */

@@ -284,7 +284,11 @@ void retire(struct shard *shard, uint32_t unit)
         give_back(&unit, 1);
         return;
     }
-    shard->retired[shard->retired_count++] = unit;
+    if (shard->retired_count == MOST_RETIRED)
+        retiring_flush(shard); /* a handler has jumped out before that was done */
+    SET_NOTE(shard->retired[shard->retired_count], unit);
+    atomic_signal_fence(memory_order_seq_cst);
+    shard->retired_count++;
     if (shard->retired_count == MOST_RETIRED)
         retiring_flush(shard);
 }

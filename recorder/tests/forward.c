@@ -1,9 +1,11 @@
 /* What the allocator does when it goes forward. `forward WHAT [N]` makes bad accesses and frees, or none, and prints
    how many megabytes it had at most. */
 #define _GNU_SOURCE
+#include <limits.h>
 #include <linux/capability.h>
 #include <malloc.h>
 #include <pthread.h>
+#include <setjmp.h>
 #include <signal.h>
 #include <stdatomic.h>
 #include <stdbool.h>
@@ -451,6 +453,58 @@ static void locked_by_user(size_t of)
     locked(0);
 }
 
+/* A handler comes after each instruction of a malloc and a free, at one a time, and jumps out. What is allocated then
+   is a block as before. */
+static sigjmp_buf before_call;
+static volatile long steps_left;
+
+static void step(int number)
+{
+    (void)number;
+    if (--steps_left == 0)
+        siglongjmp(before_call, 1);
+}
+
+static __attribute__((noinline)) void set_stepping(bool is_on)
+{
+    enum { TRAP_FLAG = 1 << 8 };
+    unsigned long long flags = __builtin_ia32_readeflags_u64() & ~(unsigned long long)TRAP_FLAG;
+    __builtin_ia32_writeeflags_u64(is_on ? flags | TRAP_FLAG : flags);
+}
+
+/* Of these calls one is gone through. */
+static void go_through(volatile bool frees)
+{
+    char *block = frees ? take(40) : NULL;
+    set_stepping(true);
+    if (frees)
+        free(block);
+    else
+        block = malloc(40);
+    set_stepping(false);
+    if (!frees)
+        free(block);
+}
+
+static void stepped(size_t of)
+{
+    signal(SIGTRAP, step);
+    for (volatile int frees = 0; frees < 2; frees++)
+        for (volatile long at = 1, is_through = 0; !is_through; at++) {
+            steps_left = LONG_MAX; /* once to its end, since it takes another way after a jump */
+            go_through(frees);
+            steps_left = at;
+            if (sigsetjmp(before_call, 1) == 0) {
+                go_through(frees);
+                is_through = 1;
+            }
+        }
+    signal(SIGTRAP, SIG_DFL);
+    char *freed = take(100 + of);
+    free(freed);
+    use(freed);
+}
+
 /* An address that was handed out before, with few blocks live. */
 static void distinct(size_t of)
 {
@@ -480,7 +534,7 @@ static const struct {
            {"shorts", shorts},     {"calls", calls},         {"sizes", sizes},
            {"locked", locked},     {"forgotten", forgotten}, {"handlers", handlers},
            {"distinct", distinct}, {"limited", limited},     {"locked_by_user", locked_by_user},
-           {"alive", alive}};
+           {"alive", alive},       {"stepped", stepped}};
 
 int main(int count, char **argv)
 {

@@ -83,10 +83,10 @@ def check_good(suite: Suite, folder: str, program: str) -> None:
 
 
 def check_freed(suite: Suite, folder: str, program: str) -> None:
-    """What was freed is found in children, after threads have ended, in large blocks, if memory is locked, and once
-    notes have gone back."""
+    """What was freed is found in children, after threads have ended, in large blocks, if memory is locked, once notes
+    have gone back, and after handlers have jumped out of any instruction."""
     for words, number in (("forks 3", 300), ("shorts 2000", 20), ("sizes", 24), ("locked", 1), ("locked_by_user", 1),
-                          ("forgotten", 8)):
+                          ("forgotten", 8), ("stepped", 1)):
         expect(found(suite, folder, program, words).kinds, freed(number), words)
 
 
