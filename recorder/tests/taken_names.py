@@ -58,6 +58,8 @@ def check_archives(suite: Suite, folder: str) -> None:
         asked = {name for kind, name in names if kind in "Uw" and not name.startswith(("__real_", "__wrap_"))}
         # What has another name by which a program may call it is the program's, and weak.
         asked -= {name for kind, name in names if kind == "w" and f"__interceptor_{name}" in defined}
+        # Those that the runtimes of Clang's sanitizers have.
+        asked -= {name for kind, name in names if kind == "w" and name.startswith("__interceptor_")}
         expect(sorted(asked - defined - LINKED - set(more)), [], f"names of the {archive} archive")
 
 
