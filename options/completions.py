@@ -48,32 +48,6 @@ BASH_FIND_COMMAND = """\
         esac
     done"""
 
-BASH_OTHER = """\
-_NAME() {
-    COMPREPLY=()
-    if declare -F _comp_load > /dev/null; then
-        _comp_load OTHER
-    elif declare -F _completion_loader > /dev/null; then
-        _completion_loader OTHER
-    fi
-    if declare -F _FAMILY > /dev/null; then
-        _FAMILY "$@"
-    elif declare -F _comp_cmd_FAMILY > /dev/null; then
-        _comp_cmd_FAMILY "$@"
-    fi
-    if [[ $2 == -* ]]; then
-        mapfile -t -O ${#COMPREPLY[@]} COMPREPLY < <(compgen -W 'WORDS' -- "$2")
-    fi
-}"""
-
-# The commands that are completed by a function of another name: compilers by that of gcc.
-OWN_FAMILY = ("cargo",)
-
-
-def family_of(other: str) -> str:
-    return other if other in OWN_FAMILY else "gcc"
-
-
 # The options that take a value have a dash before them for __fish_complete_subcommand, which takes a first word that
 # begins with two for itself.
 FISH_COMMAND = """\
@@ -201,11 +175,6 @@ def bash_words(program: Program) -> List[str]:
 
 def bash_of(program: Program, commands: List[Program]) -> List[str]:
     name, local = function_of(program), "word=$2 before=$3"
-    if "Completed as" in program.keys:
-        words = " ".join(f"{it.name}{it.joint if it.joint == '=' else ''}" for it in program.shown)
-        other = program.keys["Completed as"]
-        lines = filled(BASH_OTHER, program, OTHER=other, FAMILY=family_of(other), WORDS=words)
-        return [*lines, "", f"complete -o bashdefault -o default -F {name} {program.name}"]
     lines, options = ["    COMPREPLY=()"], list(program.shown)
     if program.has_command:
         local += " ended='' others=0 at"
@@ -273,11 +242,6 @@ def zsh_operands(program: Program) -> List[str]:
 
 
 def zsh_of(program: Program, commands: List[Program]) -> List[str]:
-    if "Completed as" in program.keys:
-        other = program.keys["Completed as"]
-        own = [quoted(f"{it.name}{it.joint.strip()}:{it.short(program.name)}") for it in program.shown]
-        return [f"local -a own=({' '.join(own)})", "[[ $PREFIX == -* ]] && _describe -o option own",
-                f'_{family_of(other)} "$@"']
     lines = []
     patterns = re.findall(r"\*\.\w+|--\w+", program.keys.get("Operands", ""))
     if patterns:
@@ -336,8 +300,6 @@ def fish_of(program: Program, commands: List[Program]) -> List[str]:
     name = program.name
     if commands:
         return fish_commands(program, commands)
-    if "Completed as" in program.keys:
-        return [f"complete -c {name} -w {program.keys['Completed as']}", *fish_options(program, program.shown, "")]
     if program.has_command:
         words, count = names_of([it for it in program.shown if it.value]), len(program.before_command)
         values = {"VALUED": " ".join(f"nono{it}" for it in words), "WORDS": " ".join(words)}
@@ -355,8 +317,6 @@ SHELLS = {"bash": bash_of, "zsh": zsh_of, "fish": fish_of}
 
 def completion_of(shell: str, program: Program, commands: List[Program], made: str) -> str:
     """Returns the text of a file."""
-    other = program.keys.get("Completed as")
-    lines = [f"#compdef {program.name}{f'={other}' if other else ''}"] if shell == "zsh" else []
-    what = f": that of {other}, and options" if other else ""
-    lines += [f"# Completion of {program.name} for {shell}{what}.", f"# {made}", ""]
+    lines = [f"#compdef {program.name}"] if shell == "zsh" else []
+    lines += [f"# Completion of {program.name} for {shell}.", f"# {made}", ""]
     return "\n".join([*lines, *SHELLS[shell](program, commands), ""])

@@ -25,7 +25,7 @@ import table
 
 OPTIONS = os.path.dirname(os.path.abspath(__file__))
 TOP = os.path.dirname(OPTIONS)
-TABLES = ("asancol", "asancol-run", "asancol-cc", "asancol-cargo", "asancol-listen")
+TABLES = ("asancol", "asancol-run", "asancol-cc", "asancol-listen")
 
 
 def text_of(path: str) -> str:
@@ -44,7 +44,7 @@ def files_of(name: str, programs: List[table.Program]) -> Dict[str, str]:
     for program in (it for it in programs if " " not in it.name):
         commands = [it for it in programs if it.name.startswith(f"{program.name} ")]
         folder = program.keys["Folder"]
-        for shell in completions.SHELLS:
+        for shell in completions.SHELLS if "Wraps" not in program.keys else ():
             path = os.path.normpath(f"{folder}/completions/{program.name}.{shell}")
             files[path] = completions.completion_of(shell, program, commands, made)
         path = os.path.normpath(f"{folder}/man/{program.name}.1")

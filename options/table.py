@@ -9,7 +9,7 @@ value above it, and a line that begins with `#` is a comment. The first line of 
     Head:, Foot:           what its help has before and after the options
     Operands:              `files`; `files PATTERN, with --OPTION PATTERN`; WORD, WORD..; or `a command`, which has its
                            own words, perhaps after others: `a file, a folder, a command`
-    Completed as:          another program, whose completions it has too
+    Wraps:                 another program, whose words it takes: it has no completions
     Help:                  what a command is for
 
     Option: -x, --NAME V   an option, with its letter and the name of its value if it has them; or with one dash alone
@@ -125,7 +125,7 @@ class Program:
         return [it for it in self.options if it.groups[self.name] == group]
 
 
-PROGRAM = ("Program", "Folder", "Groups", "Head", "Foot", "Operands", "Completed as", "Help")
+PROGRAM = ("Program", "Folder", "Groups", "Head", "Foot", "Operands", "Wraps", "Help")
 OPTION = ("Option", "Alias", "Takes", "Default", "Repeats", "Sets", "Passed to", "Written by", "Help", "Page")
 OF_PROGRAM = re.compile(r"(Group|Default|Help|Page) of .+")
 DECLARED = re.compile(r"(?:(-\w), )?(--?[a-z][a-z-]+)(?:([ =])(\w+))?")

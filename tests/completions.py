@@ -16,10 +16,6 @@ FOLDERS = {
     "asancol": "completions",
     "asancol-run": "run/completions",
     "asancol-report": "report/completions",
-    "asancol-cc": "recorder/completions",
-    "asancol-c++": "recorder/completions",
-    "asancol-fc": "recorder/completions",
-    "asancol-cargo": "recorder/cargo/completions",
     "asancol-listen": "listen/completions",
 }
 
@@ -59,12 +55,6 @@ OFFERED: Dict[str, List[Tuple[List[str], str]]] = {
         (["--", "socket", "results", "en"], "env"),
         (["socket", "results", "ls", "resu"], "result.jsonl"),
     ],
-    "asancol-cc": [
-        (["--asancol-a"], "--asancol-all"),
-        (["-fsanitize-address-u"], "-fsanitize-address-use-after-return"),
-    ],
-    "asancol-c++": [(["--asancol-a"], "--asancol-all")],
-    "asancol-fc": [(["--asancol-a"], "--asancol-all")],
 }
 
 # Words that are not offered.

@@ -218,10 +218,12 @@ def package_is_whole(_: str, folder: str) -> None:
                "lib/asancol/cxx/libc++/__config"]
     wanted += ["lib/asancol/cxx/libstdc++/bits/basic_string.tcc", "lib/asancol/libasancol_preload.so"]
     wanted += ["lib/asancol/cargo/rustc", "lib/asancol/cargo/rustdoc"]
-    for name in ("asancol", "asancol-cc", "asancol-c++", "asancol-fc", "asancol-cargo", "asancol-run", "asancol-report",
-                 "asancol-listen"):
-        wanted += [f"bin/{name}", f"share/man/man1/{name}.1.gz", f"share/bash-completion/completions/{name}"]
-        wanted += [f"share/zsh/vendor-completions/_{name}", f"share/fish/vendor_completions.d/{name}.fish"]
+    for name in completions.FOLDERS:
+        wanted += [f"share/bash-completion/completions/{name}", f"share/zsh/vendor-completions/_{name}"]
+        wanted.append(f"share/fish/vendor_completions.d/{name}.fish")
+    for name in (*completions.FOLDERS, "asancol-cc", "asancol-c++", "asancol-fc", "asancol-gcc", "asancol-g++",
+                 "asancol-clang", "asancol-clang++", "asancol-cargo"):
+        wanted += [f"bin/{name}", f"share/man/man1/{name}.1.gz"]
     wanted += [f"share/man/man5/asancol-{it}.5.gz" for it in ("trace", "results")]
     found = r"(README|CONTRIBUTING|docs/.+)\.md|examples/.*"
     documents = [it for it in files_of_tree() if re.fullmatch(found, it)]

@@ -405,6 +405,28 @@ CALLED = (
 )
 
 
+# Names that say which compiler is run, whatever the variables say.
+NAMED = ("gcc", "gcc-12", "g++", "clang", "clang-15", "clang++", "aarch64-linux-gnu-gcc")
+
+
+def check_named(suite, folder, compiler):
+    """A name that begins with asancol- and is no other runs the compiler that it says; the option goes before that."""
+    settings = {"ASANCOL_CC": "echo C", "ASANCOL_CXX": "echo C++", "PATH": f"{folder}/bin:{os.environ['PATH']}"}
+    os.mkdir(f"{folder}/bin")
+    for name in (*NAMED, "other"):
+        write(f"{folder}/bin", **{name: f"#!/bin/sh\necho {name} $*\n"})
+        os.chmod(f"{folder}/bin/{name}", 0o755)
+        os.symlink(CC, f"{folder}/bin/asancol-{name}")
+    os.symlink("asancol-clang++", f"{folder}/bin/first")
+    for name, word in (*((it, f"asancol-{it}") for it in NAMED), ("clang++", "first")):
+        for option, wanted in (([], name), (["--asancol-compiler=other"], "other")):
+            said = run([word, *option, "--version"], folder, **settings).stdout.decode()
+            expect(said, f"{wanted} --version\n", word)
+    os.symlink(CC, f"{folder}/bin/asancol-no-such-one")
+    said = run(["asancol-no-such-one", "a.c"], folder, **settings).stderr.decode()
+    expect(said, "asancol-cc: error: no-such-one: there is no such compiler\n", "a compiler that is missing")
+
+
 def check_names(suite, folder, compiler):
     """Its name says for which language it is: first that by which it was called, and then those along the links."""
     settings = {"ASANCOL_CC": "echo C", "ASANCOL_CXX": "echo C++", "ASANCOL_FC": "echo Fortran",
@@ -506,6 +528,7 @@ def tests(suite, compiler):
     suite.test(f"{compiler} builds: own flag", check_own_flag, compiler)
     suite.test(f"{compiler} builds: not asked", check_not_asked, compiler)
     suite.test(f"{compiler} builds: names", check_names, compiler)
+    suite.test(f"{compiler} builds: named compiler", check_named, compiler)
     suite.test(f"{compiler} builds: own wrap", check_own_wrap, compiler)
     suite.test(f"{compiler} builds: own options", check_own_options, compiler)
     suite.test(f"{compiler} builds: code models", check_code_models, compiler)

@@ -15,7 +15,8 @@ def check_by_itself(suite, folder, compiler):
     """The recorder, built by the compiler without a warning; and without one of C++, so that each object has its own
     strings."""
     copy = f"{folder}/recorder"
-    built = ("out", "tests", "*.a", "*.so", "asancol-cc", "asancol-c++", "asancol-fc")
+    built = ("out", "tests", "*.a", "*.so", "asancol-cc", "asancol-c++", "asancol-fc", "asancol-gcc",
+             "asancol-g++", "asancol-clang", "asancol-clang++")
     shutil.copytree(RECORDER, copy, ignore=shutil.ignore_patterns(*built))
     for name in ("install.mk", "VERSION"):
         shutil.copy(f"{RECORDER}/../{name}", folder)

@@ -54,10 +54,11 @@ int main(int count, char **argv)
     if (count == 0)
         return 1;
     fill_standard();
-    struct job job = {.front = front_of(argv[0], (const char *)getauxval(AT_EXECFN)), .arguments = argv + 1};
+    struct called called = called_as(argv[0], (const char *)getauxval(AT_EXECFN));
+    struct job job = {.front = called.front, .arguments = argv + 1};
     struct request *request = &job.request;
     say_as(job.front->name);
-    struct own_options own = own_options_take(argv, job.front);
+    struct own_options own = own_options_take(argv, &called);
     request->is_all = own.is_all;
     job.command = command_of(own.compiler, job.front);
     read_arguments(&job);

@@ -11,11 +11,13 @@
 #include "wrapper/say.h"
 #include "wrapper/self.h"
 
-struct own_options own_options_take(char **argv, const struct front *front)
+struct own_options own_options_take(char **argv, const struct called *called)
 {
     static const char all[] = "--asancol-all", compiler[] = "--asancol-compiler=";
     const char *setting = getenv("ASANCOL_ALL");
-    struct own_options own = {getenv(front->variable), setting != NULL && strcmp(setting, "1") == 0};
+    struct own_options own = {called->compiler, setting != NULL && strcmp(setting, "1") == 0};
+    if (own.compiler == NULL)
+        own.compiler = getenv(called->front->variable);
     char **kept = argv + 1;
     for (char **word = argv + 1; *word != NULL; word++) {
         if (strcmp(*word, all) == 0)

@@ -13,8 +13,8 @@ struct own_options {
     bool is_all;
 };
 
-/* Takes its options out of the arguments, and what they do not say from the environment. */
-struct own_options own_options_take(char **argv, const struct front *front);
+/* Takes its options out of the arguments, and what they do not say from its name, or else the environment. */
+struct own_options own_options_take(char **argv, const struct called *called);
 /* The arguments of the compiler. The first one is the path of a program, and never of this one. Fails if there is
    none. */
 struct strings command_of(const char *text, const struct front *front);

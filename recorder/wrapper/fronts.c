@@ -7,6 +7,7 @@
 #include <unistd.h>
 
 #include "common/array.h"
+#include "common/must.h"
 #include "common/text.h"
 
 #define FRONT(name, end, variable, usual, has_new, links_libm) {name, end, variable, usual, has_new, links_libm},
@@ -30,15 +31,28 @@ static bool has_end(const char *name, size_t length, const char *end)
     return length >= of_end && strncmp(name + length - of_end, end, of_end) == 0;
 }
 
-/* The row that the last part of a path means, or null. */
-static const struct front *front_named(const char *path)
+/* The row whose name, or whose other end, a name has at its end; or null. */
+static const struct front *row_of(const char *name, bool by_end)
 {
-    const char *name = base_name(path);
     size_t length = length_of_name(name);
     for (size_t i = 0; i < COUNT(fronts); i++)
-        if (has_end(name, length, fronts[i].name) || has_end(name, length, fronts[i].end))
+        if (has_end(name, length, by_end ? fronts[i].end : fronts[i].name))
             return &fronts[i];
     return NULL;
+}
+
+/* Takes what the last part of a path means. False: nothing. */
+static bool take_name(const char *path, struct called *called)
+{
+    static const char own[] = "asancol-";
+    const char *name = base_name(path);
+    called->front = row_of(name, false);
+    if (called->front != NULL)
+        return true;
+    if (begins_with(name, own) && name[strlen(own)] != 0)
+        called->compiler = must(strdup(name + strlen(own)));
+    called->front = row_of(name, true);
+    return called->front != NULL || called->compiler != NULL;
 }
 
 /* Puts what a link leads to in its place. False: it is none. */
@@ -56,17 +70,20 @@ static bool follow(char *path)
     return true;
 }
 
-const struct front *front_of(const char *word, const char *path)
+struct called called_as(const char *word, const char *path)
 {
     enum { MAX_LINKS = 40 }; /* as the system follows */
     char at[PATH_MAX];
-    const struct front *front = front_named(word);
+    struct called called = {0};
+    bool is_known = take_name(word, &called);
     if (snprintf(at, sizeof at, "%s", path) >= PATH_MAX)
         at[0] = 0;
-    for (int i = 0; front == NULL && i < MAX_LINKS; i++) {
-        front = front_named(at);
+    for (int i = 0; !is_known && i < MAX_LINKS; i++) {
+        is_known = take_name(at, &called);
         if (!follow(at))
             break;
     }
-    return front != NULL ? front : &fronts[0];
+    if (called.front == NULL)
+        called.front = &fronts[0];
+    return called;
 }

@@ -10,8 +10,14 @@ struct front {
     bool has_new, links_libm;
 };
 
-/* The row that is meant by the word that the program was called by; or, if that says nothing, by the path that was run:
-   by its name, or the first name along its links. Any other name means the first row. */
-const struct front *front_of(const char *word, const char *path);
+/* What the wrapper was called as. */
+struct called {
+    const struct front *front;
+    const char *compiler; /* that its name says, as asancol-clang-15; or null */
+};
+
+/* What is meant by the word that the program was called by; or, if that says nothing, by the path that was run: by its
+   name, or the first name along its links. Any other name means the first row. */
+struct called called_as(const char *word, const char *path);
 
 #endif
