@@ -75,7 +75,11 @@ def hanging_test_fails(_: str) -> None:
     tests = Suite()
     tests.watch = Watch(longest=0.5, grace=60, between=0.1)
     holds_the_pipe = ["sh", "-c", "sleep 60 & exec sleep 60"]
-    tests.test("hangs", lambda _, folder: run_of_test(holds_the_pipe, folder))
+
+    def hangs(_: object, folder: str) -> None:
+        run_of_test(holds_the_pipe, folder)
+
+    tests.test("hangs", hangs)
     tests.test("passes", lambda *_: None)
     with contextlib.redirect_stdout(io.StringIO()):
         tests.run_all()

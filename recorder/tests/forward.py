@@ -3,7 +3,7 @@ said of good programs."""
 
 import glob
 import os
-from typing import Dict, NamedTuple
+from typing import Dict, NamedTuple, Tuple
 
 from segments import segments_of
 from support import TESTS, TOP, Compiler, Suite, expect, run
@@ -12,6 +12,7 @@ RUN = f"{TOP}/run/asancol-run"
 # How many megabytes a process may have had at most, with its shadow and the allocator's notes.
 MOST = 150
 QUARANTINES = ("", "0", "100000")
+BOUNDS: Tuple[Dict[str, str], ...] = ({}, {"ASANCOL_QUARANTINE": "0"})
 
 
 class Found(NamedTuple):
@@ -64,7 +65,7 @@ def check_twice(suite: Suite, folder: str, program: str) -> None:
 def check_memory(suite: Suite, folder: str, program: str) -> None:
     """Memory stays bounded, whoever frees."""
     for words in ("loop", "pass"):
-        for settings in ({}, {"ASANCOL_QUARANTINE": "0"}):
+        for settings in BOUNDS:
             got = found(suite, folder, program, words, **settings)
             expect((got.kinds, got.megabytes < MOST), ({}, True), f"{words}: {got.megabytes} MB with {settings}")
 

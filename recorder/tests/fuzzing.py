@@ -3,7 +3,7 @@
 import glob
 import os
 import shutil
-from typing import List
+from typing import Dict, List, Tuple
 
 from support import CC, TESTS, Compiler, Suite, build, expect, leave_out, limited, reports, run, write
 
@@ -143,6 +143,9 @@ def check_libfuzzer(suite: Suite, folder: str, compiler: Compiler, is_cpp: bool)
     expect(quiet.returncode, 0, "without ASANCOL_HALT")
 
 
+# Not recorded, and recorded.
+RECORDED: Tuple[Dict[str, str], ...] = ({}, {"ASANCOL_TRACE": "%p.trace"})
+
 # It fails an assertion, or makes a bad access.
 FAILING = """
 #include <assert.h>
@@ -161,7 +164,7 @@ def check_failing(suite: Suite, folder: str, compiler: Compiler) -> None:
     write(folder, target_c=FAILING)
     compiler.c(folder, ["target.c"], f"{folder}/target", "-O1", "-fsanitize=fuzzer,address")
     for text in ("FA", "FB"):
-        for settings in ({}, {"ASANCOL_TRACE": "%p.trace"}):
+        for settings in RECORDED:
             for halt in ("1", "2"):
                 os.mkdir(f"{folder}/in")
                 write(f"{folder}/in", seed=text)
@@ -192,7 +195,7 @@ def check_asking(suite: Suite, folder: str, compiler: Compiler) -> None:
     write(folder, main_c=ASKING)
     for flags in ((), ["-fsanitize=undefined"], ["-fsanitize=undefined,address"]):
         compiler.c(folder, ["main.c"], f"{folder}/program", *flags)
-        for settings in ({}, {"ASANCOL_TRACE": "%p.trace"}):
+        for settings in RECORDED:
             expect(run(["./program"], folder, **settings).returncode, 3, f"{flags} {settings}")
 
 

@@ -153,7 +153,7 @@ def run_under(folder: str, argv: List[str], status: int = 0, gives: bool = True,
 
 
 def one(folder: str, argv: List[str], status: int = 0, **settings: str) -> Peer:
-    peers, said = run_under(folder, argv, status, **settings)
+    peers, said = run_under(folder, argv, status, True, **settings)
     expect((len(peers), said), (1, b""), f"processes of {argv}, and what was said")
     return peers[0]
 

@@ -57,7 +57,7 @@ def argument(row: Row, name: str, parameter: str, place: int) -> str:
         return "fresh_stream()"
     if is_pointer(parameter):
         return f"goods[{place}]"
-    word = OF_FUNCTIONS.get((name, name_of(parameter))) or NUMBERS.get(name_of(parameter), "0")
+    word = OF_FUNCTIONS.get((name, name_of(parameter))) or NUMBERS.get(name_of(parameter)) or "0"
     return "sockets[0]" if word == "file" and "socklen_t" in row.parameters() else word
 
 

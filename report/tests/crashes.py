@@ -3,7 +3,7 @@
 import json
 import os
 import xml.dom.minidom
-from typing import Any, List
+from typing import Any, Dict, List
 
 from asancol_report import side as layout
 from testing import expect, expect_in, expect_not_in
@@ -148,7 +148,8 @@ def crash_that_was_waited_for_does_not_count(folder: str) -> None:
     program = build(folder)
     feed = Feed(folder, "--source-root", ".", "--json", "a.jsonl")
     feed.begin()
-    for number, fields in enumerate(({"awaited": True}, {"awaited": True}, {})):
+    awaited: List[Dict[str, bool]] = [{"awaited": True}, {"awaited": True}, {}]
+    for number, fields in enumerate(awaited):
         feed.process(number, NO_REPORTS, crashed(program, "use"), signal=11, fate="no-close", why="ended by SIGSEGV",
                      **fields)
     ran = feed.end()

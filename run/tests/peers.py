@@ -108,9 +108,9 @@ def check_secret(suite: Suite, folder: str) -> None:
     """The path of the socket is nobody's to find but of the processes that have it in their environment."""
     run = Run(suite, folder)
     private = os.path.dirname(run.hub)
-    with open("/proc/net/unix", encoding="utf-8") as names:
+    with open("/proc/net/unix", encoding="utf-8") as file:
         # A connection that is open stands there too, under the name of its socket.
-        listed = set(re.findall(rf"\S*{re.escape(private)}\S*", names.read()))
+        listed = set(re.findall(rf"\S*{re.escape(private)}\S*", file.read()))
     names = [f"{front}{private}/{end}" for front in ("", "@") for end in ("ask", "hub")]
     expect(sorted(listed), names, "names that the system lists")
     for argv in (["ls", private], ["touch", f"{private}/mark"], ["cat", f"/proc/{run.program.pid}/environ"]):

@@ -59,7 +59,8 @@ def check_mixed(suite: Suite, folder: str) -> None:
     """With --keep each process has a checker for itself."""
     noting = checker(suite, folder, f"echo $# >> {folder}/words")
     said, statuses, counts = [], [], []
-    for options in ([], ["--keep", f"{folder}/kept"]):
+    ways: Tuple[List[str], ...] = ([], ["--keep", f"{folder}/kept"])
+    for options in ways:
         packets = f"{folder}/packets"
         argv = [*options, "--exitcode=7", "--", "sh", "-c", mixed(suite)]
         ran = suite.run(*argv, ASANCOL=noting, FAKE_PACKETS=packets)

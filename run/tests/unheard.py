@@ -241,7 +241,8 @@ def check_killed(suite: Suite, folder: str) -> None:
     for number in (9, 15, 2):
         ran = suite.run("--leaks=no", "--", "./kills", str(number), "1", cwd=folder)
         expect_ran(ran, 0, " before main: seen up to there", "; all complete, 1 ended abruptly")
-        for not_waited in ([], ["not waited for"]):
+        waits: Tuple[List[str], ...] = ([], ["not waited for"])
+        for not_waited in waits:
             ran = suite.run("--leaks=no", "--", "./kills", str(number), "8", "at once", *not_waited, cwd=folder)
             expect_ran(ran, 0, "; all complete")
     for number in (11, 6, 31):
