@@ -44,51 +44,50 @@ struct sum {
     size_t incomplete, abrupt, crashed, awaited, with_reports, recorded, marks, unchecked;
 };
 
-static void add_to(struct sum *sum, const struct process *joined, bool has_crashes)
+static void add_to(struct sum *sum, const struct process *process, bool has_crashes)
 {
-    bool is_awaited = joined->is_awaited && !has_crashes;
-    sum->events += joined->events;
-    sum->reports += joined->reports + joined->findings;
-    sum->findings += joined->findings;
-    sum->with_reports += joined->reports + joined->findings > 0;
-    sum->incomplete += !joined->is_complete;
-    sum->abrupt += joined->is_abrupt;
-    sum->crashed += joined->is_crash && !is_awaited;
-    sum->awaited += joined->is_crash && is_awaited;
-    sum->recorded += joined->has_checks;
-    sum->marks += joined->is_mark;
-    sum->unchecked += joined->is_unchecked;
+    struct outcome joined = segments_joined(process);
+    bool is_awaited = process->is_awaited && !has_crashes;
+    sum->events += joined.events;
+    sum->reports += outcome_reports(&joined);
+    sum->findings += joined.findings;
+    sum->with_reports += outcome_reports(&joined) > 0;
+    sum->incomplete += !outcome_is_complete(&joined);
+    sum->abrupt += joined.answer == UP_TO_THERE;
+    sum->crashed += joined.is_crash && !is_awaited;
+    sum->awaited += joined.is_crash && is_awaited;
+    sum->recorded += joined.has_checks;
+    sum->marks += process_is_unseen(process);
+    sum->unchecked += joined.answer == UNCHECKED;
 }
 
 /* If the command has ended well, a crash that a parent has waited for need not be shown: a test may want it. */
 static void find_awaited(pid_t command, int status)
 {
-    for (size_t i = 0; i < process_count() && WIFEXITED(status) && WEXITSTATUS(status) == 0; i++) {
-        struct process *first_seen = process_at(i);
-        if (!process_is_first_seen(first_seen) || first_seen->peer == command)
+    struct process *process;
+    if (!WIFEXITED(status) || WEXITSTATUS(status) != 0)
+        return;
+    for (size_t at = 0; (process = process_next(&at)) != NULL;) {
+        if (process->peer == command)
             continue;
-        struct process joined = segments_joined(first_seen);
-        first_seen->is_awaited = joined.is_crash && joined.is_complete && !joined.is_ignored
-                                 && death_was_awaited(first_seen->peer);
-        if (first_seen->is_awaited)
-            report_again(first_seen);
+        struct outcome joined = segments_joined(process);
+        process->is_awaited = joined.is_crash && outcome_is_complete(&joined) && !joined.is_ignored
+                              && death_was_awaited(process->peer);
+        if (process->is_awaited)
+            report_again(process);
     }
 }
 
 static struct sum sum_up(const struct options *options, pid_t command, int status)
 {
     struct sum sum = {0};
-    for (size_t i = 0; i < process_count(); i++)
-        if (process_is_first_seen(process_at(i)))
-            checker_sum_up(process_at(i));
+    struct process *process;
+    for (size_t at = 0; (process = process_next(&at)) != NULL;)
+        checker_sum_up(process);
     kin_look();
     find_awaited(command, status);
-    for (size_t i = 0; i < process_count(); i++) {
-        if (!process_is_first_seen(process_at(i)))
-            continue;
-        struct process joined = segments_joined(process_at(i));
-        add_to(&sum, &joined, options->crashes);
-    }
+    for (size_t at = 0; (process = process_next(&at)) != NULL;)
+        add_to(&sum, process, options->crashes);
     return sum;
 }
 
@@ -140,49 +139,49 @@ static void say_awaited(size_t count)
 }
 
 /* What holds of the run, and not of one process. */
-static struct strings troubles_of(const struct outcome *outcome)
+static struct strings troubles_of(const struct run_end *end)
 {
     static char missing[96], lost[96]; /* there is one run */
     struct strings lines = {0};
     snprintf(missing, sizeof missing, "INCOMPLETE: %" PRIu64 " fewer than --at-least asks for were recorded",
-             outcome->missing);
-    snprintf(lost, sizeof lost, "INCOMPLETE: %" PRIu64 " run%s inside this one left no result", outcome->lost,
-             plural(outcome->lost, "s"));
-    if (outcome->nothing)
+             end->missing);
+    snprintf(lost, sizeof lost, "INCOMPLETE: %" PRIu64 " run%s inside this one left no result", end->lost,
+             plural(end->lost, "s"));
+    if (end->nothing)
         strings_add(&lines, "NOTHING WAS RECORDED: was a program built with asancol-cc?");
-    else if (outcome->missing > 0)
+    else if (end->missing > 0)
         strings_add(&lines, missing);
-    if (outcome->is_running)
+    if (end->is_running)
         strings_add(&lines, "INCOMPLETE: processes of the command still run");
-    if (outcome->has_timed_out)
+    if (end->has_timed_out)
         strings_add(&lines, "INCOMPLETE: the command was ended by --timeout");
-    if (outcome->lost > 0)
+    if (end->lost > 0)
         strings_add(&lines, lost);
     return lines;
 }
 
 /* Whether something was not seen, apart from that nothing was recorded. */
-static bool is_cut_short(const struct sum *sum, const struct outcome *outcome)
+static bool is_cut_short(const struct sum *sum, const struct run_end *end)
 {
-    size_t rest = outcome->nothing ? sum->incomplete - sum->unchecked : sum->incomplete;
-    return rest > 0 || outcome->missing > 0 || outcome->is_running || outcome->has_timed_out
-           || outcome->lost > 0;
+    size_t rest = end->nothing ? sum->incomplete - sum->unchecked : sum->incomplete;
+    return rest > 0 || end->missing > 0 || end->is_running || end->has_timed_out
+           || end->lost > 0;
 }
 
 /* Ends the feed, and answers what asancol-report says; or says it here if it did not run. */
-static enum answer conclude(const struct options *options, const struct sum *sum, const struct outcome *outcome,
+static enum report_answer conclude(const struct options *options, const struct sum *sum, const struct run_end *end,
                             bool has_nested)
 {
     if (sum->reports > 0 || has_nested || options->has_output || options->has_rules)
         report_start();
-    bool is_incomplete = is_cut_short(sum, outcome) || outcome->nothing;
-    enum answer answer = is_incomplete ? ANSWER_INCOMPLETE : ANSWER_CLEAN;
+    bool is_incomplete = is_cut_short(sum, end) || end->nothing;
+    enum report_answer answer = is_incomplete ? ANSWER_INCOMPLETE : ANSWER_CLEAN;
     progress_erase();
     if (options->verbose) {
         lines_say_complete();
         unchecked_say_all();
     }
-    report_finish(outcome);
+    report_finish(end);
     if (report_was_started()) {
         collect_report();
         answer = report_answer();
@@ -194,15 +193,15 @@ static enum answer conclude(const struct options *options, const struct sum *sum
         report_leave(nested_result());
     }
     lines_say(options->quiet, options->crashes);
-    for (size_t i = 0; i < outcome->troubles.count; i++)
-        say("asancol: %s", outcome->troubles.items[i]);
+    for (size_t i = 0; i < end->troubles.count; i++)
+        say("asancol: %s", end->troubles.items[i]);
     bool is_listed = options->unchecked != UNCHECKED_NO && unchecked_count() > 0;
     if (!options->quiet || is_incomplete || is_listed || answer == ANSWER_NONE || answer == ANSWER_ARGUMENTS)
         say_summary(sum, is_incomplete, options->unchecked != UNCHECKED_NO);
     if (sum->awaited > 0 && (!options->quiet || is_incomplete))
         say_awaited(sum->awaited);
-    for (size_t i = 0; i < outcome->notes.count && (!options->quiet || is_incomplete); i++)
-        say("asancol: %s", outcome->notes.items[i]);
+    for (size_t i = 0; i < end->notes.count && (!options->quiet || is_incomplete); i++)
+        say("asancol: %s", end->notes.items[i]);
     return answer;
 }
 
@@ -216,19 +215,19 @@ static int end_as(int status)
 }
 
 /* The first rule that applies. A command that has failed, or was cut short, is no test without anything to check. */
-static int status_of(const struct options *options, enum answer answer, const struct sum *sum,
-                     const struct outcome *outcome, bool is_incomplete)
+static int status_of(const struct options *options, enum report_answer answer, const struct sum *sum,
+                     const struct run_end *end, bool is_incomplete)
 {
     bool is_known = answer == ANSWER_CLEAN || answer == ANSWER_REPORTS || answer == ANSWER_INCOMPLETE;
     bool has_reports = is_known ? answer == ANSWER_REPORTS : sum->reports > 0;
-    is_incomplete |= !is_known || (answer == ANSWER_INCOMPLETE && !outcome->nothing);
+    is_incomplete |= !is_known || (answer == ANSWER_INCOMPLETE && !end->nothing);
     if (has_reports && options->exitcode != 0)
         return (int)options->exitcode;
-    if (outcome->nothing && options->nothing != 0 && outcome->status == 0 && !is_incomplete)
+    if (end->nothing && options->nothing != 0 && end->status == 0 && !is_incomplete)
         return (int)options->nothing;
-    if ((is_incomplete || (outcome->nothing && options->nothing != 0)) && options->incomplete != 0)
+    if ((is_incomplete || (end->nothing && options->nothing != 0)) && options->incomplete != 0)
         return (int)options->incomplete;
-    return end_as(outcome->status);
+    return end_as(end->status);
 }
 
 /* One for signals, and one for what connects: a run that can take nothing in would wait for ever. A limit that can be
@@ -288,8 +287,8 @@ static int check_files(const struct options *options)
     signals_ignore_writes();
     report_begin(options);
     collect_files(options, signals);
-    struct outcome outcome = {.notes = lowered_lines(options, false)};
-    report_finish(&outcome);
+    struct run_end end = {.notes = lowered_lines(options, false)};
+    report_finish(&end);
     collect_report();
     return 0;
 }
@@ -312,7 +311,7 @@ int main(int count, char **argv)
     struct collected collected = collect(&options, command, signals);
     struct sum sum = sum_up(&options, command, collected.status);
     struct nested nested = nested_found();
-    struct outcome outcome = {
+    struct run_end end = {
         .seconds = now() - started,
         .status = collected.status,
         .nothing = sum.recorded + sum.marks == 0 && !nested.has_recorded,
@@ -322,13 +321,13 @@ int main(int count, char **argv)
         .lost = nested.lost,
         .notes = lowered_lines(&options, true),
     };
-    outcome.troubles = troubles_of(&outcome);
-    bool is_incomplete = is_cut_short(&sum, &outcome);
+    end.troubles = troubles_of(&end);
+    bool is_incomplete = is_cut_short(&sum, &end);
     bool is_error = options.unchecked == UNCHECKED_ERROR && unchecked_count() > 0;
-    if (!outcome.nothing || is_incomplete)
+    if (!end.nothing || is_incomplete)
         nested_note_recorded();
-    enum answer answer = conclude(&options, &sum, &outcome, nested.is_there);
+    enum report_answer answer = conclude(&options, &sum, &end, nested.is_there);
     folder_remove();
     is_incomplete |= is_error || !say_close();
-    return status_of(&options, answer, &sum, &outcome, is_incomplete);
+    return status_of(&options, answer, &sum, &end, is_incomplete);
 }

@@ -32,12 +32,12 @@ static struct {
 } checkers;
 
 /* What a checker runs as, with as much held as the process holds: else it would report what is sound. */
-static struct strings argv_for(const struct process *process)
+static struct strings argv_for(const struct segment *segment)
 {
     static const char option[] = "--quarantine";
     static char bytes[24];
     struct strings argv = {0};
-    bool is_other = process->side != NULL && process->quarantine != checkers.quarantine && !checkers.is_fixed;
+    bool is_other = segment->side != NULL && segment->outcome.quarantine != checkers.quarantine && !checkers.is_fixed;
     strings_add(&argv, "asancol");
     if (checkers.options.count == 0 && !is_other)
         return argv;
@@ -48,7 +48,7 @@ static struct strings argv_for(const struct process *process)
             strings_add(&argv, checkers.options.items[i + 1]);
         }
     if (is_other) {
-        snprintf(bytes, sizeof bytes, "%" PRIu64, process->quarantine);
+        snprintf(bytes, sizeof bytes, "%" PRIu64, segment->outcome.quarantine);
         strings_add(&argv, option);
         strings_add(&argv, bytes);
     }
@@ -99,224 +99,225 @@ static void close_one(int *descriptor)
     *descriptor = -1;
 }
 
-static bool has_place_for_verdicts(struct process *process)
+static bool has_place_for_verdicts(struct segment *segment)
 {
-    if (process->verdicts < 0)
-        process->verdicts = memfd_create("verdicts", MFD_CLOEXEC);
-    return process->verdicts >= 0;
+    if (segment->verdicts < 0)
+        segment->verdicts = memfd_create("verdicts", MFD_CLOEXEC);
+    return segment->verdicts >= 0;
 }
 
 /* Runs the checker over an input, which it closes here unless there are no resources. */
-static bool start(struct process *process, int input)
+static bool start(struct segment *segment, int input)
 {
-    if (has_place_for_verdicts(process)) {
-        struct strings argv = argv_for(process);
+    if (has_place_for_verdicts(segment)) {
+        struct strings argv = argv_for(segment);
         const struct start start = {
             .role = ROLE_CHECKER,
-            .owner = process,
+            .owner = segment,
             .program = checkers.program,
             .argv = argv.items,
             .input = input,
-            .output = process->verdicts,
+            .output = segment->verdicts,
         };
-        process->checker = child_start(&start);
+        segment->checker = child_start(&start);
         free(argv.items);
     }
-    if (process->checker != 0) {
-        process->stage = STAGE_CHECKED;
+    if (segment->checker != 0) {
+        segment->stage = STAGE_CHECKED;
         return true;
     }
     int error = errno;
-    if (is_shortage(error) && process_live_count() > 1)
+    if (is_shortage(error) && segment_live_count() > 1)
         return false;
-    char why[160];
+    char why[WHY_ROOM];
     snprintf(why, sizeof why, "%.80s: %s", checkers.program, strerror(error));
-    checker_give_up(process, why);
+    checker_give_up(segment, why);
     return true;
 }
 
 /* Takes the side memory, if it has come, and the name of the program. */
-static void meet(struct process *process)
+static void meet(struct segment *segment)
 {
-    if (process->name != NULL)
+    if (segment->is_met)
         return;
-    process->side_memory = side_receive(process->connection, &process->modules);
-    if (process->side_memory >= 0)
-        process->side = side_map(process->side_memory);
-    if (process->side == NULL)
-        close_one(&process->side_memory);
-    process_name(process);
-    segments_join(process);
+    segment->is_met = true;
+    segment->side_memory = side_receive(segment->connection, &segment->modules);
+    if (segment->side_memory >= 0)
+        segment->side = side_map(segment->side_memory);
+    if (segment->side == NULL)
+        close_one(&segment->side_memory);
+    segment_name(segment);
+    segments_join(segment);
 }
 
 /* As start, where what has begun can't be tried again from its beginning. */
-static void start_at_last(struct process *process, int input)
+static void start_at_last(struct segment *segment, int input)
 {
     for (int tries = 0; tries < 100; tries++) {
-        if (start(process, input))
+        if (start(segment, input))
             return;
         usleep(10000);
     }
-    checker_give_up(process, strerror(EAGAIN));
+    checker_give_up(segment, strerror(EAGAIN));
 }
 
 /* Whether the other end has closed without a byte. Whoever does so says that there was something to see. */
-static bool has_sent_nothing(const struct process *process)
+static bool has_sent_nothing(const struct segment *segment)
 {
     char byte;
-    return recv(process->connection, &byte, 1, MSG_PEEK | MSG_DONTWAIT) == 0;
+    return recv(segment->connection, &byte, 1, MSG_PEEK | MSG_DONTWAIT) == 0;
 }
 
-bool checker_answers(struct process *process)
+bool checker_answers(struct segment *segment)
 {
-    return side_answer(process->connection, &process->side_error);
+    return side_answer(segment->connection, &segment->side_error);
 }
 
 /* No event finds room in such a stream, so what the process holds says nothing of it. */
-bool checker_can_wait(struct process *process)
+bool checker_can_wait(struct segment *segment)
 {
     int size = 0;
-    meet(process);
-    return !checkers.keeps && process->cut == CUT_NONE && process->side != NULL
-           && ioctl(process->connection, FIONREAD, &size) == 0 && size > 0 && size <= SMALL_STREAM
-           && verdict_is_clean(process);
+    meet(segment);
+    return !checkers.keeps && segment->cut == CUT_NONE && segment->side != NULL
+           && ioctl(segment->connection, FIONREAD, &size) == 0 && size > 0 && size <= SMALL_STREAM
+           && verdict_is_clean(segment);
 }
 
-bool checker_start(struct process *process)
+bool checker_start(struct segment *segment)
 {
-    if (process->aside >= 0) {
-        lseek(process->aside, 0, SEEK_SET); /* unless it is a pipe */
-        return start(process, process->aside);
+    if (segment->aside >= 0) {
+        lseek(segment->aside, 0, SEEK_SET); /* unless it is a pipe */
+        return start(segment, segment->aside);
     }
-    meet(process);
-    if (process->cut == CUT_NONE && has_sent_nothing(process)) {
-        if (segments_take_empty(process)) {
-            process_is_done(process);
-            close_one(&process->connection);
+    meet(segment);
+    if (segment->cut == CUT_NONE && has_sent_nothing(segment)) {
+        if (segments_take_empty(segment)) {
+            segment_is_done(segment);
+            close_one(&segment->connection);
             return true;
         }
-        process->is_mark = true;
-        checker_give_up(process, "it was not recorded, or not by this run");
+        segment->process->source = SOURCE_UNSEEN;
+        checker_give_up(segment, "it was not recorded, or not by this run");
         return true;
     }
     if (!checkers.keeps)
-        return start(process, process->connection);
-    int input = keep_start(process);
+        return start(segment, segment->connection);
+    int input = keep_start(segment);
     if (input < 0) {
-        say("asancol-run: a trace of %s is not kept: %s", process->name, strerror(errno));
-        free(process->kept);
-        process->kept = NULL;
-        return start(process, process->connection);
+        say("asancol-run: a trace of %s is not kept: %s", segment->process->name, strerror(errno));
+        free(segment->kept);
+        segment->kept = NULL;
+        return start(segment, segment->connection);
     }
-    start_at_last(process, input); /* tee has begun to read */
+    start_at_last(segment, input); /* tee has begun to read */
     close(input);
     return true;
 }
 
-bool checker_start_file(struct process *process)
+bool checker_start_file(struct segment *segment)
 {
     char path[4200];
-    if (process->name == NULL) {
-        snprintf(path, sizeof path, "%s.where", process->trace);
-        process->side = side_read(path);
-        process_name(process);
-        segments_join(process);
+    if (!segment->is_met) {
+        segment->is_met = true;
+        snprintf(path, sizeof path, "%s.where", segment->trace);
+        segment->side = side_read(path);
+        segment_name(segment);
+        segments_join(segment);
     }
-    int input = open(process->trace, O_RDONLY | O_CLOEXEC | O_NONBLOCK);
+    int input = open(segment->trace, O_RDONLY | O_CLOEXEC | O_NONBLOCK);
     if (input < 0) {
-        checker_give_up(process, strerror(errno));
+        checker_give_up(segment, strerror(errno));
         return true;
     }
-    if (checkers.keeps && process->kept == NULL)
-        keep_file(process);
-    bool is_started = start(process, input);
+    if (checkers.keeps && segment->kept == NULL)
+        keep_file(segment);
+    bool is_started = start(segment, input);
     close(input);
     return is_started;
 }
 
-static void let_side_go(struct process *process)
+static void let_side_go(struct segment *segment)
 {
-    if (process->is_settled)
-        side_unmap(process->side);
-    if (process->is_settled)
-        process->side = NULL;
+    if (segment->outcome.is_settled)
+        side_unmap(segment->side);
+    if (segment->outcome.is_settled)
+        segment->side = NULL;
 }
 
 /* Whether somebody may want to see the traces of a process. */
-static bool is_kept(const struct process *joined)
+static bool is_kept(const struct outcome *outcome)
 {
-    return joined->reports + joined->findings > 0 || !joined->is_complete;
+    return outcome_reports(outcome) > 0 || !outcome_is_complete(outcome);
 }
 
 void checker_sum_up(struct process *process)
 {
-    struct process *front = process->first_seen->first_segment;
-    if (process->first_seen->is_summed_up)
+    if (process->is_summed_up)
         return;
     bool has_changed = false;
-    for (struct process *at = front; at != NULL; at = at->next) {
-        has_changed |= !at->is_settled && at->kept != NULL;
+    for (struct segment *at = process->first; at != NULL; at = at->next) {
+        has_changed |= !at->outcome.is_settled && at->kept != NULL;
         has_changed |= verdict_again(at);
     }
     if (has_changed || segments_are_several(process)) {
-        struct process joined = segments_joined(process);
-        for (struct process *at = front; at != NULL; at = at->next)
+        struct outcome joined = segments_joined(process);
+        for (struct segment *at = process->first; at != NULL; at = at->next)
             keep_again(at, is_kept(&joined));
         report_again(process);
     }
-    for (struct process *at = front; at != NULL; at = at->next)
+    for (struct segment *at = process->first; at != NULL; at = at->next)
         let_side_go(at);
-    process->first_seen->is_summed_up = true;
+    process->is_summed_up = true;
 }
 
 /* It is done: what nobody asks for any more is given back. The trace stays until it is known that no segment follows,
-   or what became of all. */
-static void finish(struct process *process)
+   or what became of all. The cause says why it was not checked, or is null. */
+static void finish(struct segment *segment, const char *cause)
 {
-    process_is_done(process);
-    close_one(&process->connection);
-    close_one(&process->aside);
-    verdict_read(process);
-    unchecked_take(process);
-    bool is_several = segments_are_several(process);
-    keep_end(process, is_several || !process->is_settled || is_kept(process));
-    report_process(process);
-    modules_let_go(&process->modules);
-    close_one(&process->verdicts);
-    close_one(&process->side_memory);
+    const struct outcome *outcome = &segment->outcome;
+    segment_is_done(segment);
+    close_one(&segment->connection);
+    close_one(&segment->aside);
+    verdict_read(segment, cause);
+    unchecked_take(segment);
+    bool is_several = segments_are_several(segment->process);
+    keep_end(segment, is_several || !outcome->is_settled || is_kept(outcome));
+    report_segment(segment);
+    modules_let_go(&segment->modules);
+    close_one(&segment->verdicts);
+    close_one(&segment->side_memory);
     if (!is_several)
-        let_side_go(process);
-    else if (segments_are_complete(process))
-        checker_sum_up(process);
+        let_side_go(segment);
+    else if (segments_are_complete(segment->process))
+        checker_sum_up(segment->process);
 }
 
-bool checker_take_text(struct process *process, const char *text, size_t length, int status)
+bool checker_take_text(struct segment *segment, const char *text, size_t length, int status)
 {
-    if (!has_place_for_verdicts(process) || pwrite(process->verdicts, text, length, 0) != (ssize_t)length)
+    if (!has_place_for_verdicts(segment) || pwrite(segment->verdicts, text, length, 0) != (ssize_t)length)
         return false;
-    process->checker_status = status;
-    finish(process);
+    segment->checker_status = status;
+    finish(segment, NULL);
     return true;
 }
 
-void checker_give_up(struct process *process, const char *why)
+void checker_give_up(struct segment *segment, const char *why)
 {
-    snprintf(process->why, sizeof process->why, "%s", why);
-    if (process->name == NULL)
-        process_name(process);
-    finish(process);
+    if (segment->process->name == NULL)
+        segment_name(segment);
+    finish(segment, why);
 }
 
-void checker_has_ended(struct process *process, bool is_tee, int status)
+void checker_has_ended(struct segment *segment, bool is_tee, int status)
 {
     if (is_tee) {
-        process->tee = 0;
+        segment->tee = 0;
         if (WIFEXITED(status) && WEXITSTATUS(status) != 0)
-            say("asancol-run: %s: not all of the trace could be kept", process->kept);
+            say("asancol-run: %s: not all of the trace could be kept", segment->kept);
     } else {
-        process->checker = 0;
-        process->checker_status = status;
+        segment->checker = 0;
+        segment->checker_status = status;
     }
-    if (process->checker == 0 && process->tee == 0 && process->stage == STAGE_CHECKED)
-        finish(process);
+    if (segment->checker == 0 && segment->tee == 0 && segment->stage == STAGE_CHECKED)
+        finish(segment, NULL);
 }

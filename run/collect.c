@@ -59,7 +59,7 @@ static struct {
     int status;
     size_t descriptors, base; /* how many there may be, and are without processes */
     size_t done;              /* processes, at the last look */
-    struct process **pending; /* that have not been given a checker yet */
+    struct segment **pending; /* that have not been given a checker yet */
     size_t pending_count, pending_room;
 } run;
 
@@ -91,27 +91,45 @@ static void hold_processes(void)
 
 static bool has_room(void)
 {
-    size_t held = run.base + HELD_BY_PROCESS * process_live_count() + report_held() + modules_held();
-    return now() >= run.short_until && (process_live_count() == 0 || held + HELD_BY_PROCESS <= run.descriptors);
+    size_t held = run.base + HELD_BY_PROCESS * segment_live_count() + report_held() + modules_held();
+    return now() >= run.short_until && (segment_live_count() == 0 || held + HELD_BY_PROCESS <= run.descriptors);
 }
 
-static void add_pending(struct process *process)
+static void add_pending(struct segment *segment)
 {
     if (run.pending_count == run.pending_room) {
         run.pending_room = run.pending_room * 2 + 16;
-        run.pending = must(realloc(run.pending, run.pending_room * sizeof(struct process *)));
+        run.pending = must(realloc(run.pending, run.pending_room * sizeof(struct segment *)));
     }
-    run.pending[run.pending_count++] = process;
+    run.pending[run.pending_count++] = segment;
 }
 
 /* What has come in is still checked. The process runs on. */
-static void cut_process(struct process *process)
+static void cut_segment(struct segment *segment)
 {
-    if (process->stage == STAGE_DONE || process_has_hung_up(process))
+    if (segment->stage == STAGE_DONE || segment_has_hung_up(segment))
         return;
-    if (process->cut == CUT_NONE)
-        process->cut = CUT_BY_WAIT;
-    shutdown(process->connection, SHUT_RD);
+    if (segment->cut == CUT_NONE)
+        segment->cut = CUT_BY_WAIT;
+    shutdown(segment->connection, SHUT_RD);
+}
+
+static void for_each_segment(void (*act)(struct segment *segment))
+{
+    const struct process *process;
+    for (size_t at = 0; (process = process_next(&at)) != NULL;)
+        for (struct segment *segment = process->first; segment != NULL; segment = segment->next)
+            act(segment);
+}
+
+/* One of which nothing came. */
+static void add_unseen(pid_t peer, const char *why)
+{
+    struct segment *segment = segment_add();
+    segment->process->source = SOURCE_UNSEEN;
+    if (peer != 0)
+        process_set_peer(segment->process, peer);
+    checker_give_up(segment, why);
 }
 
 /* One of another user is gone, and nobody knows if the command had started it. However many such there are, they are
@@ -123,23 +141,20 @@ static void note_unknown_peer(const struct ucred *peer)
     if (is_noted)
         return;
     is_noted = true;
-    struct process *process = process_add();
-    process->is_mark = true;
-    process_set_peer(process, peer->pid);
     snprintf(why, sizeof why, "it is of user %u, and had ended before it was seen who has started it",
              (unsigned)peer->uid);
-    checker_give_up(process, why);
+    add_unseen(peer->pid, why);
 }
 
-static void add_process(int connection, const struct ucred *peer)
+static void add_connection(int connection, const struct ucred *peer)
 {
-    struct process *process = process_add();
-    process->connection = connection;
-    process_set_peer(process, peer->pid);
-    process->cut = run.has_timed_out ? CUT_BY_TIMEOUT : CUT_NONE;
-    add_pending(process);
+    struct segment *segment = segment_add();
+    segment->connection = connection;
+    process_set_peer(segment->process, peer->pid);
+    segment->cut = run.has_timed_out ? CUT_BY_TIMEOUT : CUT_NONE;
+    add_pending(segment);
     if (run.cut != 0)
-        cut_process(process);
+        cut_segment(segment);
 }
 
 /* Answers false if there is no connection to accept now. */
@@ -154,7 +169,7 @@ static bool accept_one(int listener)
     }
     enum peer whose = peer_judge(&peer, hub_is_secret(listener));
     if (whose == PEER_OURS) {
-        add_process(connection, &peer);
+        add_connection(connection, &peer);
         return true;
     }
     close(connection);
@@ -197,14 +212,19 @@ static void reap(void)
     }
 }
 
+static void end_checker(struct segment *segment)
+{
+    if (segment->checker != 0)
+        kill(segment->checker, SIGKILL);
+}
+
 /* The user wants an end: of waiting first, and then of the report. */
 static void hurry(void)
 {
-    for (size_t i = 0; run.options->are_files && i < process_count(); i++)
-        if (process_at(i)->checker != 0)
-            kill(process_at(i)->checker, SIGKILL);
-    if (run.options->are_files)
+    if (run.options->are_files) {
+        for_each_segment(end_checker);
         signals_end_by(SIGTERM);
+    }
     if (run.cut == 0)
         run.wait_from = now() - run.options->wait;
     else
@@ -228,16 +248,16 @@ static void start_pending(const struct pollfd *polls)
 {
     size_t kept = 0, count = run.pending_count;
     for (size_t i = 0; i < count; i++) {
-        struct process *process = run.pending[i];
-        bool is_started = process->stage != STAGE_CONNECTED, is_aside = process->aside >= 0;
+        struct segment *segment = run.pending[i];
+        bool is_started = segment->stage != STAGE_CONNECTED, is_aside = segment->aside >= 0;
         bool has_come = is_aside || polls[i].revents != 0;
-        if (!is_started && has_come && now() >= run.short_until && (is_aside || !checker_answers(process))) {
-            is_started = (process->peer != run.command && held_take(process)) || checker_start(process);
+        if (!is_started && has_come && now() >= run.short_until && (is_aside || !checker_answers(segment))) {
+            is_started = (segment->process->peer != run.command && held_take(segment)) || checker_start(segment);
             if (!is_started)
                 run.short_until = now() + SHORTAGE;
         }
         if (!is_started)
-            run.pending[kept++] = process;
+            run.pending[kept++] = segment;
     }
     run.pending_count = kept;
 }
@@ -245,11 +265,11 @@ static void start_pending(const struct pollfd *polls)
 /* Those whose streams are small: checks what is due, and takes back who needs a checker of its own. */
 static void take_held(bool is_ready, bool hurries)
 {
-    struct process *process;
+    struct segment *segment;
     held_look(is_ready);
     shared_start(hurries || run.ended != 0);
-    while ((process = shared_next_alone()) != NULL)
-        add_pending(process);
+    while ((segment = shared_next_alone()) != NULL)
+        add_pending(segment);
 }
 
 /* How many seconds nothing is due, at most as many. */
@@ -329,6 +349,12 @@ static bool has_queue(void)
     return poll(polls, HUB_LISTENERS, 0) > 0;
 }
 
+static void note_timeout(struct segment *segment)
+{
+    if (segment->stage != STAGE_DONE)
+        segment->cut = CUT_BY_TIMEOUT;
+}
+
 /* --timeout: what belongs to the command is ended. */
 static void stop_command(double time)
 {
@@ -336,9 +362,7 @@ static void stop_command(double time)
         say("asancol: the command is ended by --timeout, after %g second%s", run.options->timeout,
             run.options->timeout == 1 ? "" : "s");
         run.has_timed_out = true;
-        for (size_t i = 0; i < process_count(); i++)
-            if (process_at(i)->stage != STAGE_DONE)
-                process_at(i)->cut = CUT_BY_TIMEOUT;
+        for_each_segment(note_timeout);
         descendants_signal(SIGTERM, true);
         run.timeout_at = run.kill_at = time + GRACE;
         return;
@@ -351,8 +375,7 @@ static void stop_command(double time)
 static void cut_all(double time)
 {
     run.cut = time;
-    for (size_t i = 0; i < process_count(); i++)
-        cut_process(process_at(i));
+    for_each_segment(cut_segment);
 }
 
 static void look(double time)
@@ -368,7 +391,7 @@ static void show_progress(double time)
     if (run.ended == 0 || time < run.ended + PROGRESS || time < run.progress_at)
         return;
     run.progress_at = time + 0.2;
-    size_t live = process_live_count(), all = segments_process_count();
+    size_t live = segment_live_count(), all = segments_process_count();
     progress("asancol: waiting for processes: %zu checked, %zu to go", all > live ? all - live : 0, live);
 }
 
@@ -384,7 +407,7 @@ static double act(void)
         next = run.timeout_at;
     if (run.ended == 0)
         return next > time ? next - time : 0;
-    size_t done = process_count() - process_live_count();
+    size_t done = process_count() - segment_live_count();
     if (done != run.done && !has_room() && has_queue())
         run.wait_from = time; /* they wait for us, and not we for them */
     run.done = done;
@@ -394,7 +417,7 @@ static double act(void)
     if (run.cut == 0 && deadline < next)
         next = deadline;
     show_progress(time);
-    if (process_live_count() > 0 && next > time + 0.2)
+    if (segment_live_count() > 0 && next > time + 0.2)
         next = time + 0.2;
     return next > time ? next - time : 0;
 }
@@ -409,18 +432,18 @@ static bool is_over(void)
         return false;
     if (run.cut != 0 && now() > run.cut + LAST)
         hub_stop(); /* new ones might come for ever */
-    return process_live_count() == 0 && !has_queue() && !asking_is_any();
+    return segment_live_count() == 0 && !has_queue() && !asking_is_any();
 }
 
 static void wait_for_room(void)
 {
-    while (process_live_count() >= FILES_AT_ONCE)
+    while (segment_live_count() >= FILES_AT_ONCE)
         turn(LOOK);
 }
 
-static void start_file(struct process *process)
+static void start_file(struct segment *segment)
 {
-    while (!checker_start_file(process))
+    while (!checker_start_file(segment))
         turn(SHORTAGE);
 }
 
@@ -431,16 +454,16 @@ static void check_file(const char *name)
     wait_for_room();
     if (asprintf(&path, "%s/%s", hub_folder(), name) < 0)
         must(NULL);
-    struct process *process = process_add();
-    process->trace = path;
-    process_set_peer(process, atoi(name));
-    process->cut = run.has_timed_out ? CUT_BY_TIMEOUT : CUT_NONE;
-    start_file(process);
+    struct segment *segment = segment_add();
+    segment->trace = path;
+    process_set_peer(segment->process, atoi(name));
+    segment->cut = run.has_timed_out ? CUT_BY_TIMEOUT : CUT_NONE;
+    start_file(segment);
 }
 
 void collect_files(const struct options *options, int signals)
 {
-    struct process *first_seen = NULL;
+    struct process *process = NULL;
     run.options = options;
     run.signals = signals;
     for (char **word = options->command; *word != NULL; word++) {
@@ -449,26 +472,24 @@ void collect_files(const struct options *options, int signals)
         if (number == 0 || *path++ != ':')
             fail(OWN_FAILURE, *word, "it is no NUMBER:TRACE");
         wait_for_room();
-        struct process *process = process_add();
-        process->trace = path;
-        process->segment = number - 1;
-        first_seen = first_seen == NULL ? process : first_seen;
-        segments_join_file(first_seen, process);
-        start_file(process);
+        struct segment *segment = segment_add();
+        segment->trace = path;
+        segment->number = number - 1;
+        process = process == NULL ? segment->process : process;
+        segments_join_file(process, segment);
+        start_file(segment);
     }
-    while (process_live_count() > 0)
+    while (segment_live_count() > 0)
         turn(LOOK);
-    checker_sum_up(first_seen);
+    checker_sum_up(process);
 }
 
 /* Traces, marks and results may have been in the folder. */
 static void note_loss_of_folder(const char *how)
 {
-    struct process *process = process_add();
     char why[120];
-    process->is_mark = true;
     snprintf(why, sizeof why, "the folder of the run was %s, with all that processes had left in it", how);
-    checker_give_up(process, why);
+    add_unseen(0, why);
 }
 
 /* Traces are found by the name of the folder: that of another one is not looked into. */
@@ -485,7 +506,7 @@ static void check_files(void)
     }
     if (entries != NULL)
         closedir(entries);
-    while (process_live_count() > 0)
+    while (segment_live_count() > 0)
         turn(LOOK);
     marks_take();
 }

@@ -17,7 +17,7 @@ static const double PATIENCE = 0.2;
 enum { EVENTS = 64 };
 
 struct held {
-    struct process *process;
+    struct segment *segment;
     double until;
     struct held *next, **link; /* what points to it */
 };
@@ -44,15 +44,15 @@ double held_due(void)
     return oldest != NULL ? oldest->until : INFINITY;
 }
 
-static bool add(struct process *process)
+static bool add(struct segment *segment)
 {
     struct held *made = must(malloc(sizeof *made));
     struct epoll_event event = {.events = EPOLLIN | EPOLLRDHUP | EPOLLET, .data.ptr = made};
-    if (epoll_ctl(events, EPOLL_CTL_ADD, process->connection, &event) != 0) {
+    if (epoll_ctl(events, EPOLL_CTL_ADD, segment->connection, &event) != 0) {
         free(made);
         return false;
     }
-    *made = (struct held){process, now() + PATIENCE, NULL, end};
+    *made = (struct held){segment, now() + PATIENCE, NULL, end};
     *end = made;
     end = &made->next;
     return true;
@@ -60,7 +60,7 @@ static bool add(struct process *process)
 
 static void drop(struct held *held)
 {
-    epoll_ctl(events, EPOLL_CTL_DEL, held->process->connection, NULL);
+    epoll_ctl(events, EPOLL_CTL_DEL, held->segment->connection, NULL);
     *held->link = held->next;
     if (held->next != NULL)
         held->next->link = held->link;
@@ -70,30 +70,30 @@ static void drop(struct held *held)
 }
 
 /* Whether it has ended, so that it is checked with others. All that it has sent is here then. */
-static bool is_shared(struct process *process)
+static bool is_shared(struct segment *segment)
 {
-    return verdict_is_at_end(process) && shared_take(process);
+    return verdict_is_at_end(segment) && shared_take(segment);
 }
 
-bool held_take(struct process *process)
+bool held_take(struct segment *segment)
 {
-    if (events < 0 || process->is_alone)
+    if (events < 0 || segment->is_alone)
         return false;
-    bool has_ended = process_has_hung_up(process); /* before what it has sent is looked at */
-    if (!checker_can_wait(process))
+    bool has_ended = segment_has_hung_up(segment); /* before what it has sent is looked at */
+    if (!checker_can_wait(segment))
         return false;
-    return has_ended ? is_shared(process) : add(process);
+    return has_ended ? is_shared(segment) : add(segment);
 }
 
 static void look(struct held *held, bool has_ended)
 {
-    struct process *process = held->process;
-    bool can_wait = checker_can_wait(process);
+    struct segment *segment = held->segment;
+    bool can_wait = checker_can_wait(segment);
     if (can_wait && !has_ended && now() < held->until)
         return;
     drop(held);
-    if (!can_wait || !has_ended || !is_shared(process))
-        shared_add_alone(process);
+    if (!can_wait || !has_ended || !is_shared(segment))
+        shared_add_alone(segment);
 }
 
 void held_look(bool is_ready)
@@ -106,5 +106,5 @@ void held_look(bool is_ready)
             look(found[i].data.ptr, found[i].events & (EPOLLRDHUP | EPOLLHUP | EPOLLERR));
     }
     while (oldest != NULL && now() >= oldest->until)
-        look(oldest, process_has_hung_up(oldest->process));
+        look(oldest, segment_has_hung_up(oldest->segment));
 }

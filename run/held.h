@@ -11,7 +11,7 @@
 /* Takes three descriptors. Before that, or if there are none, none is held. */
 void held_begin(void);
 /* Takes one that has sent its first bytes. False: it gets a checker of its own now. */
-bool held_take(struct process *process);
+bool held_take(struct segment *segment);
 /* What is to be polled, and when something is due at the latest, as now() says it; or INFINITY. */
 struct pollfd held_poll(void);
 double held_due(void);

@@ -64,41 +64,41 @@ static const char *numbered(int number)
 }
 
 /* PROGRAM.NUMBER, with which the names of the traces of a process begin, or PROGRAM.NUMBER.1, and so on. */
-static char *make_prefix(const struct process *process, int number)
+static char *make_prefix(const struct segment *segment, int number)
 {
     char program[80], *prefix;
-    put_program(program, sizeof program, process->name);
-    if (asprintf(&prefix, "%s/%s.%d%s", folder, program, (int)process->peer, numbered(number)) < 0)
+    put_program(program, sizeof program, segment->process->name);
+    if (asprintf(&prefix, "%s/%s.%d%s", folder, program, (int)segment->process->peer, numbered(number)) < 0)
         must(NULL);
     return prefix;
 }
 
 /* Makes the new file PREFIX.trace; of the second segment PREFIX.segment-002.trace, and so on. Answers its
    descriptor. */
-static int open_new(struct process *process, const char *prefix, int number)
+static int open_new(struct segment *segment, const char *prefix, int number)
 {
-    char segment[32] = "";
-    if (process->segment > 0)
-        snprintf(segment, sizeof segment, ".segment-%03" PRIu64, process->segment + 1);
-    if (asprintf(&process->kept, "%s%s%s.trace", prefix, segment, numbered(number)) < 0)
+    char part[32] = "";
+    if (segment->number > 0)
+        snprintf(part, sizeof part, ".segment-%03" PRIu64, segment->number + 1);
+    if (asprintf(&segment->kept, "%s%s%s.trace", prefix, part, numbered(number)) < 0)
         must(NULL);
-    int made = open(process->kept, O_WRONLY | O_CREAT | O_EXCL | O_CLOEXEC, 0666);
+    int made = open(segment->kept, O_WRONLY | O_CREAT | O_EXCL | O_CLOEXEC, 0666);
     if (made >= 0)
         return made;
     int error = errno;
-    free(process->kept);
-    process->kept = NULL;
+    free(segment->kept);
+    segment->kept = NULL;
     errno = error;
     return -1;
 }
 
 /* Makes a file for the trace whose name is free. The segments of a process have the same prefix. */
-static int make_file(struct process *process)
+static int make_file(struct segment *segment)
 {
-    char **prefix = &process->first_seen->kept_prefix;
+    char **prefix = &segment->process->kept_prefix;
     for (int number = 0; number < MAX_NAMES; number++) {
-        char *tried = *prefix != NULL ? *prefix : make_prefix(process, number);
-        int made = open_new(process, tried, *prefix != NULL ? number : 0);
+        char *tried = *prefix != NULL ? *prefix : make_prefix(segment, number);
+        int made = open_new(segment, tried, *prefix != NULL ? number : 0);
         if (made >= 0) {
             *prefix = tried;
             return made;
@@ -113,27 +113,27 @@ static int make_file(struct process *process)
     return -1;
 }
 
-int keep_start(struct process *process)
+int keep_start(struct segment *segment)
 {
-    int ends[2], made = make_file(process);
+    int ends[2], made = make_file(segment);
     if (made < 0)
         return -1;
     close(made);
-    const char *argv[] = {"tee", "--", process->kept, NULL};
+    const char *argv[] = {"tee", "--", segment->kept, NULL};
     if (pipe2(ends, O_CLOEXEC) != 0)
         return -1;
     const struct start start = {
         .role = ROLE_TEE,
-        .owner = process,
+        .owner = segment,
         .program = tee_program,
         .argv = argv,
-        .input = process->connection,
+        .input = segment->connection,
         .output = ends[1],
     };
-    process->tee = child_start(&start);
+    segment->tee = child_start(&start);
     int error = errno;
     close(ends[1]);
-    if (process->tee != 0)
+    if (segment->tee != 0)
         return ends[0];
     close(ends[0]);
     errno = error;
@@ -158,10 +158,10 @@ static bool copy(int from, int to)
     return ftruncate(to, seen.st_size) == 0;
 }
 
-static void put_copy(const struct process *process, int from, int to, const char *end)
+static void put_copy(const struct segment *segment, int from, int to, const char *end)
 {
     if (from < 0 || to < 0 || !copy(from, to))
-        say("asancol-run: %s%s: %s", process->kept, end, strerror(errno));
+        say("asancol-run: %s%s: %s", segment->kept, end, strerror(errno));
     if (to >= 0)
         close(to);
 }
@@ -176,55 +176,55 @@ static int open_where(const char *trace, int flags)
     return open(path, flags | O_CLOEXEC | O_NOFOLLOW | O_NONBLOCK, 0666);
 }
 
-void keep_file(struct process *process)
+void keep_file(struct segment *segment)
 {
-    int to = make_file(process);
+    int to = make_file(segment);
     if (to < 0) {
         say("asancol-run: %s: a trace cannot be kept: %s", folder, strerror(errno));
         return;
     }
-    int from = open(process->trace, O_RDONLY | O_CLOEXEC | O_NONBLOCK);
-    put_copy(process, from, to, "");
+    int from = open(segment->trace, O_RDONLY | O_CLOEXEC | O_NONBLOCK);
+    put_copy(segment, from, to, "");
     if (from >= 0)
         close(from);
 }
 
 /* Takes away a trace that nobody needs, and what stands beside it. */
-static void drop(struct process *process)
+static void drop(struct segment *segment)
 {
     char path[PATH_MAX];
-    snprintf(path, sizeof path, "%s.where", process->kept);
+    snprintf(path, sizeof path, "%s.where", segment->kept);
     unlink(path);
-    unlink(process->kept);
-    free(process->kept);
-    process->kept = NULL;
+    unlink(segment->kept);
+    free(segment->kept);
+    segment->kept = NULL;
 }
 
-void keep_end(struct process *process, bool is_needed)
+void keep_end(struct segment *segment, bool is_needed)
 {
-    if (process->kept == NULL)
+    if (segment->kept == NULL)
         return;
     if (!is_needed) {
-        drop(process);
+        drop(segment);
         return;
     }
-    int from = process->trace != NULL ? open_where(process->trace, O_RDONLY) : process->side_memory;
+    int from = segment->trace != NULL ? open_where(segment->trace, O_RDONLY) : segment->side_memory;
     if (from >= 0)
-        put_copy(process, from, open_where(process->kept, O_WRONLY | O_CREAT | O_EXCL), ".where");
-    if (from >= 0 && process->trace != NULL)
+        put_copy(segment, from, open_where(segment->kept, O_WRONLY | O_CREAT | O_EXCL), ".where");
+    if (from >= 0 && segment->trace != NULL)
         close(from);
 }
 
-void keep_again(struct process *process, bool is_needed)
+void keep_again(struct segment *segment, bool is_needed)
 {
-    if (process->kept != NULL && !is_needed) {
-        drop(process);
+    if (segment->kept != NULL && !is_needed) {
+        drop(segment);
         return;
     }
-    int to = process->kept != NULL && process->side != NULL ? open_where(process->kept, O_WRONLY) : -1;
+    int to = segment->kept != NULL && segment->side != NULL ? open_where(segment->kept, O_WRONLY) : -1;
     if (to < 0)
         return;
-    if (pwrite(to, process->side, sizeof *process->side, 0) != (ssize_t)sizeof *process->side)
-        say("asancol-run: %s.where: %s", process->kept, strerror(errno));
+    if (pwrite(to, segment->side, sizeof *segment->side, 0) != (ssize_t)sizeof *segment->side)
+        say("asancol-run: %s.where: %s", segment->kept, strerror(errno));
     close(to);
 }

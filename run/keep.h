@@ -8,12 +8,12 @@
 void keep_begin(const char *folder);
 /* Starts tee on the connection: it writes the trace into a file that it names, and into a pipe. Answers the end of the
    pipe from which the checker reads, or -1 and errno. */
-int keep_start(struct process *process);
+int keep_start(struct segment *segment);
 /* Copies a trace that is in a file. */
-void keep_file(struct process *process);
+void keep_file(struct segment *segment);
 /* Removes the trace if nobody needs it, or puts the side memory beside it. */
-void keep_end(struct process *process, bool is_needed);
+void keep_end(struct segment *segment, bool is_needed);
 /* Likewise, at the end: writes what has changed since. */
-void keep_again(struct process *process, bool is_needed);
+void keep_again(struct segment *segment, bool is_needed);
 
 #endif

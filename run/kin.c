@@ -9,6 +9,7 @@
 #include "processes.h"
 #include "report.h"
 #include "say.h"
+#include "segments.h"
 
 /* Who a process is, as it knows that itself. */
 struct key {
@@ -27,19 +28,19 @@ static int by_key(const void *left, const void *right)
 /* Of whom nobody knows who has forked them: they may be anybody's children. */
 static bool is_of_unknown(const struct process *process)
 {
-    return process->is_mark || process->started == 0;
+    return process_is_unseen(process) || process->started == 0;
 }
 
 /* The parents of all that were forked, in order. */
 static struct key *list_parents(size_t *count, size_t *unknown)
 {
     struct key *parents = must(calloc(process_count() + 1, sizeof *parents));
+    const struct process *process;
     *count = *unknown = 0;
-    for (size_t i = 0; i < process_count(); i++) {
-        const struct process *process = process_at(i);
-        if (process_is_first_seen(process) && is_of_unknown(process))
+    for (size_t at = 0; (process = process_next(&at)) != NULL;) {
+        if (is_of_unknown(process))
             ++*unknown;
-        else if (process_is_first_seen(process) && process->of_parent_started != 0)
+        else if (process->of_parent_started != 0)
             parents[(*count)++] = (struct key){process->of_parent, process->of_parent_started};
     }
     qsort(parents, *count, sizeof *parents, by_key);
@@ -61,52 +62,52 @@ static size_t rank(const struct key *parents, size_t count, const struct key *ke
     return from;
 }
 
-static uint64_t forks_of(const struct process *first_seen)
+static uint64_t forks_of(const struct process *process)
 {
     uint64_t forks = 0;
-    for (const struct process *at = first_seen->first_segment; at != NULL; at = at->next)
-        forks += at->forks;
+    for (const struct segment *at = process->first; at != NULL; at = at->next)
+        forks += at->children != NULL ? at->children->forks : 0;
     return forks;
 }
 
-static struct process *last_segment(const struct process *first_seen)
+/* Who was incomplete before has a cause already. */
+static void blame(struct process *process, const char *why)
 {
-    struct process *last = first_seen->first_segment;
-    while (last->next != NULL)
-        last = last->next;
-    return last;
+    struct outcome *last = &segments_last(process)->outcome;
+    bool was_good = outcome_is_complete(last) || last->answer == UNCHECKED;
+    outcome_set(last, INCOMPLETE, "%s", was_good ? why : last->why);
+    report_again(process);
 }
 
-#define BLAME(first_seen, ...)                                                                                         \
-    do {                                                                                                               \
-        struct process *last = last_segment(first_seen);                                                               \
-        if (last->is_complete || last->is_unchecked)                                                                   \
-            snprintf(last->why, sizeof last->why, __VA_ARGS__);                                                        \
-        last->is_complete = last->is_unchecked = last->is_abrupt = false;                                              \
-        report_again(first_seen);                                                                                      \
-    } while (0)
+static void blame_for_children(struct process *process, uint64_t missing)
+{
+    char why[WHY_ROOM];
+    if (missing == 1)
+        snprintf(why, sizeof why, "a child that it forked never connected");
+    else
+        snprintf(why, sizeof why, "%" PRIu64 " children that it forked never connected", missing);
+    blame(process, why);
+}
 
 static void look_for_children(void)
 {
     size_t count, unknown;
     struct key *parents = list_parents(&count, &unknown);
-    for (size_t i = 0; i < process_count(); i++) {
-        struct process *first_seen = process_at(i);
-        if (!process_is_first_seen(first_seen) || is_of_unknown(first_seen))
+    struct process *process;
+    for (size_t at = 0; (process = process_next(&at)) != NULL;) {
+        if (is_of_unknown(process))
             continue;
-        struct key key = {first_seen->own_number, first_seen->started};
-        marks_excuse_words(first_seen);
+        struct key key = {process->own_number, process->started};
+        marks_excuse_words(process);
         uint64_t came = rank(parents, count, &key, true) - rank(parents, count, &key, false);
-        uint64_t forks = forks_of(first_seen);
+        uint64_t forks = forks_of(process);
         uint64_t missing = forks > came ? forks - came : 0, excused = missing < unknown ? missing : unknown;
         unknown -= excused;
         missing -= excused;
-        while (missing > 0 && marks_excuse_child(first_seen))
+        while (missing > 0 && marks_excuse_child(process))
             missing--;
-        if (missing == 1)
-            BLAME(first_seen, "a child that it forked never connected");
-        else if (missing > 1)
-            BLAME(first_seen, "%" PRIu64 " children that it forked never connected", missing);
+        if (missing > 0)
+            blame_for_children(process, missing);
     }
     free(parents);
 }
@@ -123,11 +124,11 @@ static bool has_become(const struct process *process)
 
 static void look_for_programs(void)
 {
-    for (size_t i = 0; i < process_count(); i++) {
-        struct process *process = process_at(i);
-        if (process->becomes && !has_become(process))
-            BLAME(process->first_seen, "it became a program of asancol-cc that never connected");
-    }
+    struct process *process;
+    for (size_t at = 0; (process = process_next(&at)) != NULL;)
+        for (const struct segment *segment = process->first; segment != NULL; segment = segment->next)
+            if (segment->becomes && !has_become(process))
+                blame(process, "it became a program of asancol-cc that never connected");
 }
 
 void kin_look(void)

@@ -10,25 +10,26 @@
 #include "say.h"
 #include "segments.h"
 
-static void say_complete(const struct process *process)
+static void say_complete(const struct process *process, const struct outcome *joined)
 {
     char segments[48] = "";
-    bool is_other = process->why[0] == 0 && process->ending == ENDING_EXEC;
-    const char *end = is_other ? "went on as another program" : process->why;
-    uint64_t reports = process->reports + process->findings;
-    if (process->segments > 1)
-        snprintf(segments, sizeof segments, " in %zu segments", process->segments);
+    bool is_other = joined->why[0] == 0 && joined->ending == ENDING_EXEC;
+    const char *end = is_other ? "went on as another program" : joined->why;
+    uint64_t reports = outcome_reports(joined);
+    if (joined->segments > 1)
+        snprintf(segments, sizeof segments, " in %" PRIu32 " segments", joined->segments);
     say("asancol: process %d %s: complete%s%s, %" PRIu64 " event%s%s, %" PRIu64 " report%s", process->own_number,
-        process->name, end[0] != 0 ? ": " : "", end, process->events, plural(process->events, "s"), segments,
+        process->name, end[0] != 0 ? ": " : "", end, joined->events, plural(joined->events, "s"), segments,
         reports, plural(reports, "s"));
 }
 
 void lines_say_complete(void)
 {
-    for (size_t i = 0; i < process_count(); i++) {
-        struct process process = segments_joined(process_at(i));
-        if (process_is_first_seen(process_at(i)) && process.is_complete)
-            say_complete(&process);
+    const struct process *process;
+    for (size_t at = 0; (process = process_next(&at)) != NULL;) {
+        struct outcome joined = segments_joined(process);
+        if (outcome_is_complete(&joined))
+            say_complete(process, &joined);
     }
 }
 
@@ -59,14 +60,15 @@ static char *line_of(const struct process *process, bool is_quiet, bool has_cras
 {
     char *text = NULL;
     const char *form = NULL;
-    bool is_crash = process->is_crash && (has_crashes || !process->is_awaited);
-    if (!process->is_complete)
+    struct outcome joined = segments_joined(process);
+    bool is_crash = joined.is_crash && (has_crashes || !process->is_awaited);
+    if (!outcome_is_complete(&joined))
         form = "%s: INCOMPLETE: %s";
-    else if (process->is_abrupt && (!is_quiet || is_crash))
+    else if (joined.answer == UP_TO_THERE && (!is_quiet || is_crash))
         form = "%s: %s: seen up to there";
     else if (is_crash)
         form = "%s: %s";
-    if (form != NULL && asprintf(&text, form, process->name, process->why) < 0)
+    if (form != NULL && asprintf(&text, form, process->name, joined.why) < 0)
         must(NULL);
     return text;
 }
@@ -75,9 +77,9 @@ void lines_say(bool is_quiet, bool has_crashes)
 {
     struct line *lines = NULL;
     size_t count = 0;
-    for (size_t i = 0; i < process_count(); i++) {
-        struct process process = segments_joined(process_at(i));
-        char *text = process_is_first_seen(process_at(i)) ? line_of(&process, is_quiet, has_crashes) : NULL;
+    const struct process *process;
+    for (size_t i = 0; (process = process_next(&i)) != NULL;) {
+        char *text = line_of(process, is_quiet, has_crashes);
         size_t at = 0;
         if (text == NULL)
             continue;
@@ -90,7 +92,7 @@ void lines_say(bool is_quiet, bool has_crashes)
             free(text);
         }
         if (lines[at].count < sizeof lines->first / sizeof *lines->first)
-            lines[at].first[lines[at].count] = process.own_number;
+            lines[at].first[lines[at].count] = process->own_number;
         lines[at].count++;
     }
     for (size_t at = 0; at < count; at++) {

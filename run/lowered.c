@@ -20,22 +20,22 @@ struct line {
 };
 
 /* In lean recording nothing is held for its bound, and a process that came to it has another line (add_used_again). */
-static bool has_held_less(const struct process *process, uint64_t bound)
+static bool has_held_less(const struct outcome *joined, uint64_t bound)
 {
-    return process->settings.is_lean == 0 && process->quarantine < bound;
+    return !joined->is_lean && joined->quarantine < bound;
 }
 
 /* What a process has lowered: the text is empty if it is nothing. */
-static void describe(char *text, size_t room, const struct process *process, const struct options *options)
+static void describe(char *text, size_t room, const struct outcome *joined, const struct options *options)
 {
     const char *halt = getenv("ASANCOL_HALT");
     bool may_halt = halt != NULL && *halt != 0 && strcmp(halt, "0") != 0;
     text[0] = 0;
-    if (has_held_less(process, options->held))
+    if (has_held_less(joined, options->held))
         snprintf(text, room,
                  "held back %" PRIu64 " byte%s of freed memory (ASANCOL_QUARANTINE), so uses after free may be missed",
-                 process->quarantine, plural(process->quarantine, "s"));
-    else if (process->settings.halt != 0 && !may_halt && process->reports > 0)
+                 joined->quarantine, plural(joined->quarantine, "s"));
+    else if (joined->halts && !may_halt && joined->reports > 0)
         snprintf(text, room, "ended at its first fault (ASANCOL_HALT), so what it would have done was not seen");
 }
 
@@ -69,9 +69,9 @@ static const char *made(const struct line *line)
 static void add_used_again(struct strings *texts)
 {
     struct line line = {.count = 0};
-    for (size_t i = 0; i < process_count(); i++) {
-        const struct process *process = process_at(i);
-        uint64_t bytes = process_is_first_seen(process) ? segments_joined(process).used_again : 0;
+    const struct process *process;
+    for (size_t at = 0; (process = process_next(&at)) != NULL;) {
+        uint64_t bytes = segments_joined(process).used_again;
         if (bytes == 0 || line.count++ > 0)
             continue;
         bool is_large = bytes >= 1000000000;
@@ -103,11 +103,11 @@ struct strings lowered_lines(const struct options *options, bool is_of_run)
     size_t count = 0;
     char text[sizeof lines->text];
     bool is_for_all = false;
-    for (size_t i = 0; i < process_count(); i++) {
-        const struct process *process = process_at(i);
-        if (process->first_seen != process || process->is_mark)
+    const struct process *process;
+    for (size_t at = 0; (process = process_next(&at)) != NULL;) {
+        if (process_is_unseen(process))
             continue;
-        struct process joined = segments_joined(process);
+        struct outcome joined = segments_joined(process);
         is_for_all |= has_held_less(&joined, QUARANTINE_BOUND) && joined.quarantine == options->held;
         describe(text, sizeof text, &joined, options);
         if (text[0] != 0)

@@ -65,9 +65,16 @@ static bool read_mark(int folder, const char *name, struct mark *mark)
 static struct process *word_of(pid_t number)
 {
     struct process *process = process_of_peer(number);
-    while (process != NULL && !process->is_mark)
+    while (process != NULL && !process_is_unseen(process))
         process = process_next_of_peer(process);
     return process;
+}
+
+/* Says of one of which only a word came why that is, and whether it had time to come. */
+static void explain(struct process *word, enum answer answer, const char *why)
+{
+    outcome_set(&word->first->outcome, answer, "%s", why);
+    report_again(word);
 }
 
 /* A process that was not recorded: it may also have connected and sent nothing. */
@@ -76,18 +83,16 @@ static void take_unseen(struct mark *mark)
     struct process *process = word_of(mark->number);
     bool is_known = process != NULL;
     if (!is_known) {
-        process = process_add();
+        process = segment_add()->process;
         process_set_peer(process, mark->number);
     }
     process->own_number = mark->number;
-    process->is_mark = process->has_left_word = true;
+    process->source = SOURCE_WORD;
     process_set_name(process, mark->program);
-    if (!is_known) {
-        checker_give_up(process, mark->why);
-        return;
-    }
-    snprintf(process->why, sizeof process->why, "%.159s", mark->why);
-    report_again(process);
+    if (is_known)
+        explain(process, process->first->outcome.answer, mark->why);
+    else
+        checker_give_up(process->first, mark->why);
 }
 
 void marks_take_word(pid_t number, char *text)
@@ -101,29 +106,23 @@ void marks_take_word(pid_t number, char *text)
    been another one's before. */
 static bool has_come(const struct mark *mark)
 {
-    for (size_t i = 0; i < process_count(); i++) {
-        const struct process *process = process_at(i);
+    const struct process *process;
+    for (size_t at = 0; (process = process_next(&at)) != NULL;) {
         bool is_its = process->own_number == mark->number || process->peer == mark->number;
-        bool has_word = process->is_mark && process->has_left_word;
-        bool has_stream = !process->is_mark && (process->started == 0 || process->started > mark->made);
+        bool has_word = process->source == SOURCE_WORD;
+        bool has_stream = !process_is_unseen(process) && (process->started == 0 || process->started > mark->made);
         if (is_its && (has_word || has_stream))
             return true;
     }
     return false;
 }
 
-/* It had no time to begin: its parent has ended it, or who may. */
-static void excuse(struct process *process)
-{
-    process->is_complete = process->is_abrupt = true;
-    report_again(process);
-}
-
-/* It had connected, and sent nothing. */
+/* It had connected, and sent nothing: it had no time to begin, since its parent has ended it, or who may. */
 static void excuse_word(struct process *word, int signal)
 {
-    snprintf(word->why, sizeof word->why, "it ended before its recording began, by %s", signal_name(signal));
-    excuse(word);
+    char why[WHY_ROOM];
+    snprintf(why, sizeof why, "it ended before its recording began, by %s", signal_name(signal));
+    explain(word, UP_TO_THERE, why);
 }
 
 /* What it became is a program of asancol-cc, of which nothing came. */
@@ -145,7 +144,7 @@ static void take_expected(struct mark *mark)
     strncat(mark->why, how, sizeof mark->why - strlen(mark->why) - 1);
     take_unseen(mark);
     if (*joint == ',' && death == DEATH_SEEN && WIFSIGNALED(status) && verdict_is_of_others(WTERMSIG(status)))
-        excuse(word_of(mark->number));
+        explain(word_of(mark->number), UP_TO_THERE, mark->why);
 }
 
 /* Children that others have ended and that did not come, by their parents. */
@@ -177,9 +176,8 @@ static void excuse_child(pid_t number, const struct process *parent, int signal)
 {
     struct mark mark = {.number = number};
     snprintf(mark.program, sizeof mark.program, "%.200s", parent->name);
-    snprintf(mark.why, sizeof mark.why, "it ended before its recording began, by %s", signal_name(signal));
     take_unseen(&mark);
-    excuse(word_of(number));
+    excuse_word(word_of(number), signal);
 }
 
 /* The signal by which another process has ended a child that did not come, whoever has waited for it; or 0. */
@@ -194,10 +192,11 @@ static int killed_by(pid_t child)
 
 void marks_excuse_words(const struct process *parent)
 {
-    for (const struct process *at = parent->first_segment; at != NULL; at = at->next) {
-        for (size_t i = 0; i < at->child_count; i++) {
-            struct process *word = word_of(at->children[i]);
-            int signal = word != NULL ? killed_by(at->children[i]) : 0;
+    for (const struct segment *at = parent->first; at != NULL; at = at->next) {
+        for (size_t i = 0; at->children != NULL && i < at->children->count; i++) {
+            pid_t child = at->children->numbers[i];
+            struct process *word = word_of(child);
+            int signal = word != NULL ? killed_by(child) : 0;
             if (signal != 0)
                 excuse_word(word, signal);
         }
@@ -207,12 +206,13 @@ void marks_excuse_words(const struct process *parent)
 /* One whose parent has not waited for it. */
 static bool excuse_orphan(const struct process *parent)
 {
-    for (const struct process *at = parent->first_segment; at != NULL; at = at->next) {
-        for (size_t i = 0; i < at->child_count; i++) {
-            int signal = word_of(at->children[i]) == NULL ? killed_by(at->children[i]) : 0;
+    for (const struct segment *at = parent->first; at != NULL; at = at->next) {
+        for (size_t i = 0; at->children != NULL && i < at->children->count; i++) {
+            pid_t child = at->children->numbers[i];
+            int signal = word_of(child) == NULL ? killed_by(child) : 0;
             if (signal == 0)
                 continue;
-            excuse_child(at->children[i], parent, signal);
+            excuse_child(child, parent, signal);
             return true;
         }
     }

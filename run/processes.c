@@ -7,6 +7,7 @@
 #include <string.h>
 
 #include "say.h"
+#include "texts.h"
 
 /* So much of the name of a program is printed. */
 enum { MAX_NAME_LENGTH = 200 };
@@ -14,27 +15,42 @@ enum { MAX_NAME_LENGTH = 200 };
 /* The system gives at most 64 times as many numbers. */
 enum { PEER_BUCKETS = 65536 };
 
+/* Processes of which the number has the same rest, in the order in which they connected. */
+struct bucket {
+    struct process *first, *last;
+};
+
 static struct process **processes;
-static struct process *by_peer[PEER_BUCKETS];
+static struct bucket by_peer[PEER_BUCKETS];
 static size_t count, room, live;
 
-struct process *process_add(void)
+static struct process *add(void)
 {
     if (count == room) {
         room = room * 2 + 16;
         processes = must(realloc(processes, room * sizeof *processes));
     }
     struct process *made = must(calloc(1, sizeof *made));
-    made->connection = made->side_memory = made->verdicts = made->aside = -1;
-    made->first_seen = made->first_segment = made;
     processes[count++] = made;
+    return made;
+}
+
+struct segment *segment_add(void)
+{
+    struct segment *made = must(calloc(1, sizeof *made));
+    made->connection = made->side_memory = made->verdicts = made->aside = -1;
+    made->outcome.fate = made->outcome.why = "";
+    made->process = add();
+    made->process->first = made;
     live++;
     return made;
 }
 
-struct process *process_at(size_t number)
+struct process *process_next(size_t *at)
 {
-    return processes[number];
+    while (*at < count && processes[*at]->first == NULL)
+        ++*at;
+    return *at < count ? processes[(*at)++] : NULL;
 }
 
 size_t process_count(void)
@@ -42,21 +58,28 @@ size_t process_count(void)
     return count;
 }
 
-size_t process_number(struct process *first_seen)
+size_t process_number(struct process *process)
 {
     static size_t numbered;
-    if (first_seen->number == 0)
-        first_seen->number = ++numbered;
-    return first_seen->number - 1;
+    if (process->number == 0)
+        process->number = ++numbered;
+    return process->number - 1;
+}
+
+static struct bucket *bucket_of(pid_t peer)
+{
+    return &by_peer[(unsigned)peer % PEER_BUCKETS];
 }
 
 void process_set_peer(struct process *process, pid_t peer)
 {
-    struct process **at = &by_peer[(unsigned)peer % PEER_BUCKETS];
+    struct bucket *bucket = bucket_of(peer);
     process->peer = peer;
-    while (*at != NULL)
-        at = &(*at)->peer_next;
-    *at = process;
+    if (bucket->first == NULL)
+        bucket->first = process;
+    else
+        bucket->last->peer_next = process;
+    bucket->last = process;
 }
 
 static struct process *find_peer(struct process *from, pid_t peer)
@@ -68,7 +91,7 @@ static struct process *find_peer(struct process *from, pid_t peer)
 
 struct process *process_of_peer(pid_t peer)
 {
-    return find_peer(by_peer[(unsigned)peer % PEER_BUCKETS], peer);
+    return find_peer(bucket_of(peer)->first, peer);
 }
 
 struct process *process_next_of_peer(const struct process *process)
@@ -76,22 +99,22 @@ struct process *process_next_of_peer(const struct process *process)
     return find_peer(process->peer_next, process->peer);
 }
 
-bool process_has_hung_up(const struct process *process)
+bool segment_has_hung_up(const struct segment *segment)
 {
-    struct pollfd end = {process->connection, POLLRDHUP, 0};
-    return process->connection < 0 || (poll(&end, 1, 0) == 1 && (end.revents & (POLLRDHUP | POLLHUP | POLLERR)));
+    struct pollfd end = {segment->connection, POLLRDHUP, 0};
+    return segment->connection < 0 || (poll(&end, 1, 0) == 1 && (end.revents & (POLLRDHUP | POLLHUP | POLLERR)));
 }
 
-size_t process_live_count(void)
+size_t segment_live_count(void)
 {
     return live;
 }
 
-void process_is_done(struct process *process)
+void segment_is_done(struct segment *segment)
 {
-    if (process->stage != STAGE_DONE)
+    if (segment->stage != STAGE_DONE)
         live--;
-    process->stage = STAGE_DONE;
+    segment->stage = STAGE_DONE;
 }
 
 /* The first word of its command line, if it still runs. */
@@ -108,18 +131,32 @@ static const char *name_by_number(pid_t number)
     return name[0] != 0 ? name : UNKNOWN_NAME;
 }
 
-void process_name(struct process *process)
+static void take_settings(struct outcome *outcome, const struct side *side)
 {
-    const struct side *side = process->side;
+    struct side_settings settings = side_settings(side);
+    outcome->quarantine = side_quarantine(side);
+    outcome->is_one = settings.is_one != 0;
+    outcome->halts = settings.halt != 0;
+    outcome->is_lean = settings.is_lean != 0;
+}
+
+void segment_name(struct segment *segment)
+{
+    struct process *process = segment->process;
+    const struct side *side = segment->side;
+    segment->outcome.quarantine = UINT64_MAX;
+    if (side != NULL)
+        take_settings(&segment->outcome, side);
+    if (process->name != NULL)
+        return;
     process->own_number = side != NULL ? (int)side->process : (int)process->peer;
     process->parent = side != NULL ? (int)side->parent : 0;
-    process->quarantine = side != NULL ? side_quarantine(side) : UINT64_MAX;
-    if (side != NULL)
-        process->settings = side_settings(side);
     process_set_name(process, side != NULL ? side->argv : name_by_number(process->peer));
 }
 
 void process_set_name(struct process *process, const char *name)
 {
-    process->name = must(strndup(name, MAX_NAME_LENGTH));
+    char *shown = must(strndup(name, MAX_NAME_LENGTH));
+    process->name = text_kept(shown);
+    free(shown);
 }

@@ -53,8 +53,8 @@ static struct {
     uint64_t findings[RAW_PROCESSES]; /* which have no line */
     int numbers[RAW_PROCESSES];
     char segments[RAW_PROCESSES][32]; /* which one it is of, in words, if there are several */
-    char *names[RAW_PROCESSES];
-    const struct process *first_seen[RAW_PROCESSES];
+    const char *names[RAW_PROCESSES];
+    const struct process *processes[RAW_PROCESSES];
     size_t count, more;
 } raw;
 
@@ -125,14 +125,23 @@ void report_begin(const struct options *options)
     enqueue(message, to);
 }
 
+/* The side memory of its first segment that has one, or null. */
+static const struct side *side_of(const struct process *process)
+{
+    const struct segment *at = process->first;
+    while (at->side == NULL && at->next != NULL)
+        at = at->next;
+    return at->side;
+}
+
 /* The arguments of the process, or its name if that is all that is known. */
 static void put_words(FILE *to, const struct process *process)
 {
     char argv[SIDE_ARGV + 1], *list[MAX_ARGUMENTS + 1];
     size_t count = 0;
-    const struct side *side = process->side;
+    const struct side *side = side_of(process);
     if (side == NULL) {
-        char *only[] = {process->name, NULL};
+        char *only[] = {(char *)(uintptr_t)process->name, NULL};
         json_list(to, only, MAX_PROCESS_ARGV);
         return;
     }
@@ -144,134 +153,152 @@ static void put_words(FILE *to, const struct process *process)
     json_list(to, list, MAX_PROCESS_ARGV);
 }
 
+static void put_outcome(FILE *to, const struct outcome *outcome)
+{
+    fprintf(to,
+            ",\"fate\":\"%s\",\"events\":%" PRIu64 ",\"reports\":%" PRIu64 ",\"whole\":%s,\"left_out\":%" PRIu64
+            ",\"signal\":%u,\"why\":",
+            outcome->fate, outcome->events, outcome->reports, outcome_is_complete(outcome) ? "true" : "false",
+            outcome->left_out, outcome->signal);
+    json_text(to, outcome->why);
+    if (outcome->findings > 0)
+        fprintf(to, ",\"findings\":%" PRIu32, outcome->findings);
+    if (outcome->used_again > 0)
+        fprintf(to, ",\"used_again\":%" PRIu64, outcome->used_again);
+    if (outcome->answer == UP_TO_THERE)
+        fputs(",\"abrupt\":true", to);
+}
+
+static void put_file(FILE *to, const char *name, const char *path)
+{
+    if (path == NULL)
+        return;
+    fprintf(to, ",\"%s\":", name);
+    json_text(to, path);
+}
+
 /* What is known of a process; and of its segments the one whose descriptors come with it, if that is not null. So many
    of these are files of modules. */
-static void put_process(FILE *to, struct process *process, const struct process *segment, size_t files)
+static void put_process(FILE *to, struct process *process, const struct segment *segment, size_t files)
 {
-    const char *trace = segment != NULL ? segment->trace : process->trace;
-    fprintf(to,
-            "{\"type\":\"process\",\"n\":%zu,\"pid\":%d,\"parent\":%d,\"fate\":\"%s\",\"events\":%" PRIu64
-            ",\"reports\":%" PRIu64 ",\"whole\":%s,\"left_out\":%" PRIu64 ",\"signal\":%u,\"why\":",
-            process_number(process), process->own_number, process->parent, process->fate, process->events,
-            process->reports, process->is_complete ? "true" : "false", process->left_out, process->signal);
-    json_text(to, process->why);
-    if (process->findings > 0)
-        fprintf(to, ",\"findings\":%" PRIu64, process->findings);
-    if (process->used_again > 0)
-        fprintf(to, ",\"used_again\":%" PRIu64, process->used_again);
-    if (process->is_abrupt)
-        fputs(",\"abrupt\":true", to);
+    struct outcome joined = segments_joined(process);
+    fprintf(to, "{\"type\":\"process\",\"n\":%zu,\"pid\":%d,\"parent\":%d", process_number(process),
+            process->own_number, process->parent);
+    put_outcome(to, &joined);
     if (process->is_awaited)
         fputs(",\"awaited\":true", to);
     fputs(",\"command\":", to);
     put_words(to, process);
-    if (process->segments > 1)
-        fprintf(to, ",\"segments\":%zu", process->segments);
-    if (segment != NULL && segments_are_several(segment))
-        fprintf(to, ",\"segment\":%" PRIu64, segment->segment + 1);
-    if (trace != NULL) {
-        fputs(",\"trace\":", to);
-        json_text(to, trace);
-    }
-    if (process->kept != NULL) {
-        fputs(",\"kept\":", to);
-        json_text(to, process->kept);
-    }
+    if (joined.segments > 1)
+        fprintf(to, ",\"segments\":%" PRIu32, joined.segments);
+    if (segment != NULL && segments_are_several(process))
+        fprintf(to, ",\"segment\":%" PRIu64, segment->number + 1);
+    put_file(to, "trace", segment != NULL ? segment->trace : process->first->trace);
+    put_file(to, "kept", segments_kept(process));
     if (files > 0)
         fprintf(to, ",\"files\":%zu", files);
     fputc('}', to);
 }
 
 /* Counts lines that are not kept: with those of an earlier segment, or the process if there are none of it. */
-static void count_more(struct process *process)
+static void count_more(const struct segment *segment)
 {
     for (size_t i = raw.count; i > 0; i--)
-        if (raw.first_seen[i - 1] == process->first_seen) {
-            raw.left_out[i - 1] += process->reports;
-            raw.findings[i - 1] += process->findings;
+        if (raw.processes[i - 1] == segment->process) {
+            raw.left_out[i - 1] += segment->outcome.reports;
+            raw.findings[i - 1] += segment->outcome.findings;
             return;
         }
-    raw.more += !process->first_seen->is_among_more;
-    process->first_seen->is_among_more = true;
+    raw.more += !segment->process->is_among_more;
+    segment->process->is_among_more = true;
 }
 
 /* Keeps the first lines of what the checker has printed, for the case that asancol-report cannot. */
-static void keep_raw(struct process *process)
+static void keep_raw(const struct segment *segment)
 {
     char text[RAW_BYTES];
+    const struct process *process = segment->process;
+    const struct outcome *outcome = &segment->outcome;
     if (raw.count == RAW_PROCESSES) {
-        count_more(process);
+        count_more(segment);
         return;
     }
-    ssize_t length = pread(process->verdicts, text, sizeof text - 1, 0);
+    ssize_t length = pread(segment->verdicts, text, sizeof text - 1, 0);
     text[length > 0 ? length : 0] = 0;
     uint64_t lines = 0;
     char *end = text;
-    for (char *line; lines < RAW_LINES && lines < process->reports && (line = strchr(end, '\n')) != NULL; lines++)
+    for (char *line; lines < RAW_LINES && lines < outcome->reports && (line = strchr(end, '\n')) != NULL; lines++)
         end = line + 1;
     *end = 0;
     raw.texts[raw.count] = must(strdup(text));
-    raw.left_out[raw.count] = process->reports - lines;
-    raw.findings[raw.count] = process->findings;
+    raw.left_out[raw.count] = outcome->reports - lines;
+    raw.findings[raw.count] = outcome->findings;
     raw.names[raw.count] = process->name;
-    raw.first_seen[raw.count] = process->first_seen;
+    raw.processes[raw.count] = process;
     if (segments_are_several(process))
-        snprintf(raw.segments[raw.count], sizeof *raw.segments, ", segment %" PRIu64, process->segment + 1);
+        snprintf(raw.segments[raw.count], sizeof *raw.segments, ", segment %" PRIu64, segment->number + 1);
     raw.numbers[raw.count++] = process->own_number;
 }
 
-static void take_descriptors(struct message *message, struct process *process, const int *files, size_t count)
+static void take_descriptors(struct message *message, struct segment *segment, const int *files, size_t count)
 {
-    lseek(process->verdicts, 0, SEEK_SET);
-    message->descriptors[message->count++] = process->verdicts;
-    process->verdicts = -1;
-    if (process->side_memory >= 0)
-        message->descriptors[message->count++] = process->side_memory;
-    process->side_memory = -1;
+    lseek(segment->verdicts, 0, SEEK_SET);
+    message->descriptors[message->count++] = segment->verdicts;
+    segment->verdicts = -1;
+    if (segment->side_memory >= 0)
+        message->descriptors[message->count++] = segment->side_memory;
+    segment->side_memory = -1;
     for (size_t i = 0; i < count; i++)
         message->descriptors[message->count++] = files[i];
 }
 
 /* Files that the process has loaded since it began: before something removes them. */
-static void find_modules(struct process *process)
+static void find_modules(struct segment *segment)
 {
     static char map[SIDE_UNCHECKED - SIDE_MAPS + 1];
-    ssize_t length = process->side_memory >= 0 ? pread(process->side_memory, map, sizeof map - 1, SIDE_MAPS) : 0;
+    ssize_t length = segment->side_memory >= 0 ? pread(segment->side_memory, map, sizeof map - 1, SIDE_MAPS) : 0;
     map[length > 0 ? length : 0] = 0;
-    modules_find(&process->modules, map);
+    modules_find(&segment->modules, map);
 }
 
-void report_process(struct process *process)
+/* Whether a reader would see something in its descriptors. */
+static bool is_shown(const struct segment *segment)
+{
+    const struct outcome *outcome = &segment->outcome;
+    bool has_more = outcome->is_crash || outcome->findings + outcome->leaks > 0 || outcome->leaks_missed;
+    return outcome->reports > 0 || (has_more && segment->verdicts >= 0);
+}
+
+/* A message with what is to be seen of a segment. */
+static void show(struct segment *segment)
 {
     struct message *message;
-    bool has_crash = process->is_crash && process->verdicts >= 0;
-    bool has_findings = (process->findings + process->leaks > 0 || process->leaks_missed) && process->verdicts >= 0;
-    bool is_shown = process->reports > 0 || has_crash || has_findings;
-    if (!is_shown && segments_are_several(process))
-        return; /* what all of them come to is said once they are there */
-    struct process joined = segments_joined(process);
-    FILE *to = new_message(&message);
     int files[SIDE_FILES];
-    if (is_shown)
-        find_modules(process);
-    size_t count = is_shown ? modules_copy(&process->modules, files) : 0;
-    put_process(to, &joined, is_shown ? process : NULL, count);
-    if (process->reports + process->findings > 0)
-        keep_raw(process);
-    if (is_shown) {
-        take_descriptors(message, process, files, count);
-        report_start();
-    }
+    FILE *to = new_message(&message);
+    find_modules(segment);
+    size_t count = modules_copy(&segment->modules, files);
+    put_process(to, segment->process, segment, count);
+    if (outcome_reports(&segment->outcome) > 0)
+        keep_raw(segment);
+    take_descriptors(message, segment, files, count);
+    report_start();
     enqueue(message, to);
 }
 
-void report_again(const struct process *process)
+void report_again(struct process *process)
 {
     struct message *message;
-    struct process joined = segments_joined(process);
     FILE *to = new_message(&message);
-    put_process(to, &joined, NULL, 0);
+    put_process(to, process, NULL, 0);
     enqueue(message, to);
+}
+
+void report_segment(struct segment *segment)
+{
+    if (is_shown(segment))
+        show(segment);
+    else if (!segments_are_several(segment->process)) /* what several come to is said once they are there */
+        report_again(segment->process);
 }
 
 size_t report_held(void)
@@ -440,20 +467,20 @@ static void put_lines(FILE *to, const char *name, const struct strings *lines)
     json_list(to, (char *const *)(uintptr_t)lines->items, MAX_LINES);
 }
 
-void report_finish(const struct outcome *outcome)
+void report_finish(const struct run_end *end)
 {
     struct message *message;
     FILE *to = new_message(&message);
     fprintf(to,
             "{\"type\":\"end\",\"seconds\":%.3f,\"status\":%d,\"signal\":%d,\"nothing\":%s,\"missing\":%" PRIu64
             ",\"running\":%s,\"timed_out\":%s,\"lost\":%" PRIu64,
-            outcome->seconds, WIFEXITED(outcome->status) ? WEXITSTATUS(outcome->status) : 0,
-            WIFSIGNALED(outcome->status) ? WTERMSIG(outcome->status) : 0, outcome->nothing ? "true" : "false",
-            outcome->missing, outcome->is_running ? "true" : "false", outcome->has_timed_out ? "true" : "false",
-            outcome->lost);
+            end->seconds, WIFEXITED(end->status) ? WEXITSTATUS(end->status) : 0,
+            WIFSIGNALED(end->status) ? WTERMSIG(end->status) : 0, end->nothing ? "true" : "false",
+            end->missing, end->is_running ? "true" : "false", end->has_timed_out ? "true" : "false",
+            end->lost);
     unchecked_put(to);
-    put_lines(to, "troubles", &outcome->troubles);
-    put_lines(to, "notes", &outcome->notes);
+    put_lines(to, "troubles", &end->troubles);
+    put_lines(to, "notes", &end->notes);
     fputc('}', to);
     report.is_over = true;
     enqueue(message, to);
@@ -467,11 +494,11 @@ void report_interrupt(void)
         kill(-report.child, SIGKILL);
 }
 
-enum answer report_answer(void)
+enum report_answer report_answer(void)
 {
     if (report.is_broken || !report.has_ended || !WIFEXITED(report.status) || WEXITSTATUS(report.status) >= ANSWER_NONE)
         return ANSWER_NONE;
-    return (enum answer)WEXITSTATUS(report.status);
+    return (enum report_answer)WEXITSTATUS(report.status);
 }
 
 void report_leave(const char *path)

@@ -10,7 +10,7 @@
 #include "processes.h"
 
 /* What came of the whole run. */
-struct outcome {
+struct run_end {
     double seconds;
     int status;   /* of the command, as of waitpid */
     bool nothing; /* was recorded */
@@ -22,15 +22,15 @@ struct outcome {
     struct strings notes;    /* lines for the reader, which cost no status */
 };
 
-enum answer { ANSWER_CLEAN, ANSWER_REPORTS, ANSWER_ARGUMENTS, ANSWER_INCOMPLETE, ANSWER_NOT_WRITTEN, ANSWER_NONE };
+enum report_answer { ANSWER_CLEAN, ANSWER_REPORTS, ANSWER_ARGUMENTS, ANSWER_INCOMPLETE, ANSWER_NOT_WRITTEN, ANSWER_NONE };
 
 /* The first message: what is run. */
 void report_begin(const struct options *options);
-/* A process is done, or a segment of it. The message takes its descriptors, if there is something to see in them. A
-   segment without that has none. */
-void report_process(struct process *process);
+/* A segment is done. The message takes its descriptors, if there is something to see in them. A segment of several
+   without that has none. */
+void report_segment(struct segment *segment);
 /* What was said of a process has changed, or is known since all of its segments are. */
-void report_again(const struct process *process);
+void report_again(struct process *process);
 
 /* How many descriptors wait to be sent. */
 size_t report_held(void);
@@ -48,11 +48,11 @@ bool report_is_running(void);
 /* Whether it was started. */
 bool report_was_started(void);
 /* The last message. */
-void report_finish(const struct outcome *outcome);
+void report_finish(const struct run_end *end);
 /* Ends it, since nobody wants to wait for it. */
 void report_interrupt(void);
 /* What it has answered, once it has ended. */
-enum answer report_answer(void);
+enum report_answer report_answer(void);
 
 /* Leaves the messages in a file, as JSON lines, for a run round this one. They have not been sent. */
 void report_leave(const char *path);

@@ -2,92 +2,136 @@
 #include "segments.h"
 
 #include <inttypes.h>
-#include <stdio.h>
+#include <stdlib.h>
 #include <string.h>
 
+#include "say.h"
 #include "verdict.h"
 
-/* Leads are found by the numbers of their processes. */
-enum { BUCKETS = 4096 };
 /* No process has so many segments: a greater number is none. */
 #define MAX_SEGMENTS ((uint64_t)1 << 32)
 
-static struct process *buckets[BUCKETS];
+/* Processes by what their side memory says of them: at least as many buckets as processes. */
+static struct process **known;
+static size_t known_count, bucket_count;
 static size_t joined_count; /* how many have joined another */
 
-/* What lies in a file has its number as the process sees it, and not as the hub does. */
-static bool is_same_process(const struct process *one, const struct process *other)
+static struct process **bucket_of(int own_number, uint64_t started)
 {
-    bool is_same_peer = one->peer == other->peer || one->trace != NULL || other->trace != NULL;
-    return one->own_number == other->own_number && one->started == other->started && is_same_peer;
+    uint64_t mixed = (started ^ (uint64_t)(unsigned)own_number << 40) * UINT64_C(0x9e3779b97f4a7c15);
+    return &known[(mixed >> 32) % bucket_count];
 }
 
-/* Puts it in its place among those of the first seen. False: there is one of this number already. */
-static bool put(struct process *first_seen, struct process *made)
+static void put_known(struct process *process)
 {
-    struct process **at = &first_seen->first_segment;
-    while (*at != NULL && (*at)->segment < made->segment)
+    struct process **bucket = bucket_of(process->own_number, process->started);
+    process->known_next = *bucket;
+    *bucket = process;
+}
+
+static void grow(void)
+{
+    struct process **before = known;
+    size_t count = bucket_count;
+    bucket_count = count == 0 ? 1024 : 2 * count;
+    known = must(calloc(bucket_count, sizeof(struct process *)));
+    for (size_t i = 0; i < count; i++) {
+        for (struct process *at = before[i], *next; at != NULL; at = next) {
+            next = at->known_next;
+            put_known(at);
+        }
+    }
+    free(before);
+}
+
+static void add_known(struct process *process)
+{
+    if (known_count++ == bucket_count)
+        grow();
+    put_known(process);
+}
+
+/* What lies in a file has its number as the process sees it, and not as the hub does. */
+static bool is_of(const struct segment *segment, const struct process *process)
+{
+    const struct process *own = segment->process;
+    bool is_same_peer = process->peer == own->peer || process->first->trace != NULL || segment->trace != NULL;
+    return process->own_number == own->own_number && process->started == own->started && is_same_peer;
+}
+
+/* Puts it in its place among those of the process. False: there is one of this number already. */
+static bool put(struct process *process, struct segment *segment)
+{
+    struct segment **at = &process->first;
+    while (*at != NULL && (*at)->number < segment->number)
         at = &(*at)->next;
-    if (*at != NULL && (*at)->segment == made->segment)
+    if (*at != NULL && (*at)->number == segment->number)
         return false;
-    made->first_segment = NULL;
-    made->first_seen = first_seen;
-    made->next = *at;
-    *at = made;
-    first_seen->is_summed_up = false;
+    segment->process->first = NULL;
+    segment->process = process;
+    segment->next = *at;
+    *at = segment;
+    process->is_summed_up = false;
+    joined_count++;
     return true;
 }
 
-static void take_segment(struct process *process)
+static void take_numbers(struct segment *segment)
 {
-    uint64_t segment = side_progress(process->side).segment;
-    process->segment = segment < MAX_SEGMENTS ? segment : 0;
-    process->started = process->side->started;
+    uint64_t number = side_progress(segment->side).segment;
+    segment->number = number < MAX_SEGMENTS ? number : 0;
+    segment->process->started = segment->side->started;
 }
 
-void segments_join_file(struct process *first_seen, struct process *process)
+void segments_join_file(struct process *process, struct segment *segment)
 {
-    process->is_file = true;
-    if (process != first_seen && put(first_seen, process))
-        joined_count++;
+    process->source = SOURCE_FILES;
+    if (segment->process == process)
+        return;
+    segment->process->source = SOURCE_FILES;
+    put(process, segment);
 }
 
-void segments_join(struct process *process)
+void segments_join(struct segment *segment)
 {
-    struct process **bucket = &buckets[(unsigned)process->own_number % BUCKETS];
-    bool is_known = process->side != NULL && process->side->started != 0 && !process->is_file;
-    if (is_known)
-        take_segment(process);
-    for (struct process *first_seen = *bucket; is_known && first_seen != NULL; first_seen = first_seen->hash_next)
-        if (is_same_process(first_seen, process) && put(first_seen, process)) {
-            joined_count++;
-            return;
-        }
-    process_number(process->first_seen);
+    struct process *own = segment->process, *other = NULL;
+    bool is_known = segment->side != NULL && segment->side->started != 0 && own->source != SOURCE_FILES;
     if (is_known) {
-        process->hash_next = *bucket;
-        *bucket = process;
+        take_numbers(segment);
+        other = known_count > 0 ? *bucket_of(own->own_number, own->started) : NULL;
     }
+    for (; other != NULL; other = other->known_next)
+        if (is_of(segment, other) && put(other, segment))
+            return;
+    process_number(own);
+    if (is_known)
+        add_known(own);
+}
+
+struct segment *segments_last(const struct process *process)
+{
+    struct segment *last = process->first;
+    while (last->next != NULL)
+        last = last->next;
+    return last;
 }
 
 /* Whether the last segment of a process says that another one follows. The process may just have written it. */
-static bool goes_on(const struct process *first_seen)
+static bool goes_on(const struct process *process)
 {
-    const struct process *last = first_seen->first_segment;
-    while (last->next != NULL)
-        last = last->next;
-    return last->ending == ENDING_SEGMENT || (last->side != NULL && last->side->ending == ENDING_SEGMENT);
+    const struct segment *last = segments_last(process);
+    return last->outcome.ending == ENDING_SEGMENT || (last->side != NULL && last->side->ending == ENDING_SEGMENT);
 }
 
-bool segments_take_empty(struct process *process)
+bool segments_take_empty(struct segment *segment)
 {
-    struct process *last = NULL, *other = process->peer != 0 ? process_of_peer(process->peer) : NULL;
+    struct process *own = segment->process, *last = NULL, *other = own->peer != 0 ? process_of_peer(own->peer) : NULL;
     for (; other != NULL; other = process_next_of_peer(other))
-        if (other != process && other->first_seen == other && goes_on(other))
+        if (other != own && other->first != NULL && goes_on(other))
             last = other;
     if (last == NULL)
         return false;
-    process->first_seen = last;
+    own->first = NULL;
     joined_count++;
     return true;
 }
@@ -99,136 +143,148 @@ size_t segments_process_count(void)
 
 bool segments_are_several(const struct process *process)
 {
-    const struct process *front = process->first_seen->first_segment;
-    return front->next != NULL || front->segment > 0 || front->ending == ENDING_SEGMENT;
+    const struct segment *front = process->first;
+    return front->next != NULL || front->number > 0 || front->outcome.ending == ENDING_SEGMENT;
 }
 
 /* Whether the one that should come after it is there; or it is the last. */
-static bool has_next(const struct process *segment)
+static bool has_next(const struct segment *segment)
 {
     if (segment->next == NULL)
-        return segment->ending != ENDING_SEGMENT;
-    return segment->next->segment == segment->segment + 1;
+        return segment->outcome.ending != ENDING_SEGMENT;
+    return segment->next->number == segment->number + 1;
 }
 
 bool segments_are_complete(const struct process *process)
 {
-    const struct process *at = process->first_seen->first_segment;
-    if (at->segment > 0)
+    const struct segment *at = process->first;
+    if (at->number > 0)
         return false;
     for (; at->next != NULL; at = at->next)
         if (at->stage != STAGE_DONE || !has_next(at))
             return false;
-    return at->stage == STAGE_DONE && has_next(at) && at->is_settled;
+    return at->stage == STAGE_DONE && has_next(at) && at->outcome.is_settled;
 }
 
-#define WHY(...) snprintf(joined->why, sizeof joined->why, __VA_ARGS__)
+const char *segments_kept(const struct process *process)
+{
+    const struct segment *at = process->first;
+    while (at->kept == NULL && at->next != NULL)
+        at = at->next;
+    return at->kept;
+}
+
+static bool is_good(const struct segment *segment)
+{
+    return outcome_is_complete(&segment->outcome) || segment->outcome.answer == UNCHECKED;
+}
 
 /* Whether all that a segment recorded was seen. Each but the last has to end with a close. */
-static bool is_seen(const struct process *segment)
+static bool is_seen(const struct segment *segment)
 {
-    bool is_good = segment->is_complete || segment->is_unchecked;
-    bool has_end = segment->next == NULL || segment->is_closed_off || strcmp(segment->fate, "closed") == 0;
-    return is_good && has_end;
+    const struct outcome *outcome = &segment->outcome;
+    bool has_end = segment->next == NULL || outcome->is_closed_off || strcmp(outcome->fate, "closed") == 0;
+    return is_good(segment) && has_end;
 }
 
+#define BLAME(...) outcome_set(joined, INCOMPLETE, __VA_ARGS__)
+
 /* Says of the whole process what is wrong with one of its segments. */
-static void blame(struct process *joined, const struct process *segment)
+static void blame(struct outcome *joined, const struct segment *segment)
 {
-    memcpy(joined->fate, segment->fate, sizeof joined->fate);
+    const struct outcome *outcome = &segment->outcome;
+    joined->fate = outcome->fate;
     if (segment->stage != STAGE_DONE)
-        WHY("its end was not seen");
-    else if (segment->is_cut_at_limit)
+        BLAME("its end was not seen");
+    else if (outcome->is_cut_at_limit)
         verdict_blame_limit(joined);
     else if (segment->next == NULL)
-        WHY("%s", segment->why);
-    else if (segment->is_complete || segment->is_unchecked)
-        WHY("segment %" PRIu64 ": its trace ended as %s", segment->segment + 1, segment->fate);
+        BLAME("%s", outcome->why);
+    else if (is_good(segment))
+        BLAME("segment %" PRIu64 ": its trace ended as %s", segment->number + 1, outcome->fate);
     else
-        WHY("segment %" PRIu64 ": %.120s", segment->segment + 1, segment->why);
+        BLAME("segment %" PRIu64 ": %.120s", segment->number + 1, outcome->why);
 }
 
 /* Says what is missing or was not seen of it; or answers false. */
-static bool is_flawed(struct process *joined, const struct process *front)
+static bool is_flawed(struct outcome *joined, const struct segment *front)
 {
-    if (front->segment > 0) {
-        WHY("segment %" PRIu64 " is the first that was seen", front->segment + 1);
+    if (front->number > 0) {
+        BLAME("segment %" PRIu64 " is the first that was seen", front->number + 1);
         return true;
     }
-    for (const struct process *at = front; at != NULL; at = at->next) {
+    for (const struct segment *at = front; at != NULL; at = at->next) {
         if (!is_seen(at)) {
             blame(joined, at);
             return true;
         }
         if (!has_next(at)) {
-            WHY("%s%s",
-                at->is_closed_off ? "it has closed all its descriptors, and did not connect again"
-                                  : "its next segment did not come",
-                at->next != NULL ? ", and later ones did" : "");
+            BLAME("%s%s",
+                  at->outcome.is_closed_off ? "it has closed all its descriptors, and did not connect again"
+                                            : "its next segment did not come",
+                  at->next != NULL ? ", and later ones did" : "");
             return true;
         }
     }
     return false;
 }
 
-/* How many events the process had: of these, lean recording sends those near a fault alone. */
-static uint64_t events_of(const struct process *segment)
+/* How many events it had: of these, lean recording sends those near a fault alone. */
+static uint64_t events_of(const struct outcome *outcome)
 {
-    return segment->events - segment->stated + segment->left_good;
+    return outcome->events - outcome->stated + outcome->left_good;
 }
 
-/* Adds up what all have, and answers the last. */
-static const struct process *add_up(struct process *joined, const struct process *front)
+static void add(struct outcome *joined, const struct outcome *outcome)
 {
-    const struct process *last = front;
-    joined->events = joined->reports = joined->left_out = joined->stated = joined->segments = 0;
-    joined->findings = joined->leaks = joined->used_again = 0;
-    joined->has_checks = false;
-    joined->kept = NULL;
-    joined->side = NULL;
-    for (const struct process *at = front; at != NULL; last = at, at = at->next) {
-        joined->events += events_of(at);
-        joined->reports += at->reports;
-        joined->findings += at->findings;
-        joined->leaks += at->leaks;
-        if (joined->used_again == 0)
-            joined->used_again = at->used_again;
-        if (at->settings.is_lean == 0) { /* it has gone over to that */
-            joined->settings.is_lean = 0;
-            joined->quarantine = at->quarantine;
-        }
-        joined->left_out += at->left_out;
-        joined->has_checks |= at->has_checks;
-        joined->segments++;
-        if (joined->kept == NULL)
-            joined->kept = at->kept;
-        if (joined->side == NULL)
-            joined->side = at->side;
+    joined->events += events_of(outcome);
+    joined->reports += outcome->reports;
+    joined->findings += outcome->findings;
+    joined->leaks += outcome->leaks;
+    joined->left_out += outcome->left_out;
+    if (joined->used_again == 0)
+        joined->used_again = outcome->used_again;
+    if (!outcome->is_lean) { /* it has gone over to that */
+        joined->is_lean = false;
+        joined->quarantine = outcome->quarantine;
     }
-    return last;
+    joined->has_checks |= outcome->has_checks;
+    joined->segments++;
 }
 
-struct process segments_joined(const struct process *process)
+/* The sum of all, with the settings of the first, and the end of the last. */
+static struct outcome add_up(const struct segment *front)
 {
-    struct process *first_seen = process->first_seen;
-    process_number(first_seen);
-    struct process joined = *first_seen;
+    const struct outcome *first = &front->outcome;
+    struct outcome joined = {
+        .fate = "", .why = "", .quarantine = first->quarantine, .is_one = first->is_one, .halts = first->halts,
+        .is_lean = first->is_lean, .ending = first->ending};
+    for (const struct segment *at = front; at != NULL; at = at->next) {
+        add(&joined, &at->outcome);
+        joined.fate = at->outcome.fate;
+        joined.signal = at->outcome.signal;
+        joined.is_crash = at->outcome.is_crash;
+        joined.is_ignored = at->outcome.is_ignored;
+    }
+    return joined;
+}
+
+struct outcome segments_joined(const struct process *process)
+{
+    struct outcome joined = process->first->outcome;
     joined.segments = 1;
-    joined.events = events_of(first_seen);
-    if (!segments_are_several(first_seen))
+    joined.events = events_of(&joined);
+    if (!segments_are_several(process))
         return joined;
-    const struct process *last = add_up(&joined, first_seen->first_segment);
-    joined.signal = last->signal;
-    joined.is_crash = last->is_crash;
-    joined.is_ignored = last->is_ignored;
-    memcpy(joined.fate, last->fate, sizeof joined.fate);
-    bool is_good = !is_flawed(&joined, first_seen->first_segment);
-    joined.is_complete = is_good && joined.has_checks;
-    joined.is_unchecked = is_good && !joined.has_checks;
-    joined.is_abrupt = joined.is_complete && last->is_abrupt;
-    if (is_good)
-        memcpy(joined.why, last->why, sizeof joined.why);
-    if (joined.is_complete && last->is_unchecked)
-        joined.why[0] = 0; /* the checks came before */
+    joined = add_up(process->first);
+    const struct outcome *last = &segments_last(process)->outcome;
+    if (is_flawed(&joined, process->first))
+        return joined;
+    if (!joined.has_checks)
+        outcome_set(&joined, UNCHECKED, "%s", last->why);
+    else if (last->answer == UNCHECKED) /* the checks came before */
+        outcome_set(&joined, COMPLETE, "%s", "");
+    else
+        outcome_set(&joined, last->answer, "%s", last->why);
     return joined;
 }

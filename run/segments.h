@@ -5,20 +5,24 @@
 
 #include "processes.h"
 
-/* Joins a file to the first of the same process: which segment it is was said. */
-void segments_join_file(struct process *first_seen, struct process *process);
+/* Joins a file to this process: which segment it is was said. */
+void segments_join_file(struct process *process, struct segment *segment);
 /* Joins one whose side memory was mapped to those of the same process that have come before. */
-void segments_join(struct process *process);
+void segments_join(struct segment *segment);
 /* Whether it has connected to go on in the next segment of a process, and has sent nothing: that one did not come. It
    is no process then. */
-bool segments_take_empty(struct process *process);
+bool segments_take_empty(struct segment *segment);
 /* How many processes there are, of all that have connected. */
 size_t segments_process_count(void);
-/* Whether there are others of its process, or should be. */
+/* Whether a process has several segments, or should have. */
 bool segments_are_several(const struct process *process);
-/* Whether all segments of its process have come and are done. */
+/* Whether all segments of a process have come and are done. */
 bool segments_are_complete(const struct process *process);
+/* The last of those that have come. */
+struct segment *segments_last(const struct process *process);
+/* The file in which its trace is kept, or the first one of several; or null. */
+const char *segments_kept(const struct process *process);
 /* What the whole process has come to, as far as it is known now. */
-struct process segments_joined(const struct process *process);
+struct outcome segments_joined(const struct process *process);
 
 #endif

@@ -24,7 +24,7 @@ enum { MOST_STREAMS = 64 };
 static const double LULL = 0.1, PATIENCE = 1;
 
 struct batch {
-    struct process *streams[MOST_STREAMS];
+    struct segment *streams[MOST_STREAMS];
     size_t count;
     int verdicts; /* a descriptor */
 };
@@ -32,26 +32,26 @@ struct batch {
 static int ends[2] = {-1, -1}; /* of the pipe by which streams are moved: no byte is read here */
 static struct batch *waiting;  /* or null */
 static double first_came, last_came;
-static struct process *alone; /* the first that needs a checker of its own; the others by next_alone */
-static struct process **alone_end = &alone;
+static struct segment *alone; /* the first that needs a checker of its own; the others by next_alone */
+static struct segment **alone_end = &alone;
 
 bool shared_begin(void)
 {
     return pipe2(ends, O_CLOEXEC | O_NONBLOCK) == 0;
 }
 
-void shared_add_alone(struct process *process)
+void shared_add_alone(struct segment *segment)
 {
-    process->is_alone = true;
-    process->stage = STAGE_CONNECTED;
-    process->next_alone = NULL;
-    *alone_end = process;
-    alone_end = &process->next_alone;
+    segment->is_alone = true;
+    segment->stage = STAGE_CONNECTED;
+    segment->next_alone = NULL;
+    *alone_end = segment;
+    alone_end = &segment->next_alone;
 }
 
-struct process *shared_next_alone(void)
+struct segment *shared_next_alone(void)
 {
-    struct process *next = alone;
+    struct segment *next = alone;
     if (next == NULL)
         return NULL;
     alone = next->next_alone;
@@ -73,20 +73,20 @@ static bool move(int from, int to, size_t size)
 }
 
 /* If the system has no memory for the pipe's pages, what came so far is read there, by a checker of its own. */
-static void let_pipe_go(struct process *process)
+static void let_pipe_go(struct segment *segment)
 {
-    process->aside = ends[0];
+    segment->aside = ends[0];
     close(ends[1]);
     if (!shared_begin())
         ends[0] = ends[1] = -1;
-    shared_add_alone(process);
+    shared_add_alone(segment);
 }
 
-static void add_waiting(struct process *process)
+static void add_waiting(struct segment *segment)
 {
     if (waiting == NULL)
         waiting = must(calloc(1, sizeof *waiting));
-    waiting->streams[waiting->count++] = process;
+    waiting->streams[waiting->count++] = segment;
     last_came = now();
     if (waiting->count == 1)
         first_came = last_came;
@@ -104,23 +104,23 @@ static int make_file(size_t size)
     return -1;
 }
 
-bool shared_take(struct process *process)
+bool shared_take(struct segment *segment)
 {
     int size = 0;
-    if (ioctl(process->connection, FIONREAD, &size) != 0)
+    if (ioctl(segment->connection, FIONREAD, &size) != 0)
         return false;
     int made = make_file((size_t)size);
     if (made < 0)
         return false;
-    bool is_moved = move(process->connection, ends[1], (size_t)size) && move(ends[0], made, (size_t)size);
-    close(process->connection);
-    process->connection = -1;
+    bool is_moved = move(segment->connection, ends[1], (size_t)size) && move(ends[0], made, (size_t)size);
+    close(segment->connection);
+    segment->connection = -1;
     if (is_moved) {
-        process->aside = made;
-        add_waiting(process);
+        segment->aside = made;
+        add_waiting(segment);
     } else {
         close(made);
-        let_pipe_go(process);
+        let_pipe_go(segment);
     }
     return true;
 }

@@ -14,7 +14,7 @@ enum { SMALL_STREAM = HEADER_LENGTH + 1 };
 /* Makes what streams are moved by. False: it can't be made, and no checker is shared. */
 bool shared_begin(void);
 /* Moves all of a small stream whose process has ended. False: it can't be moved, and still is where it was. */
-bool shared_take(struct process *process);
+bool shared_take(struct segment *segment);
 /* When the next checker is to be started, as now() says it; or INFINITY. */
 double shared_due(void);
 /* Starts a checker of all that wait, if that is due, or there is hurry. */
@@ -23,7 +23,7 @@ void shared_start(bool hurries);
 void shared_has_ended(void *batch, int status);
 
 /* Of a process that needs a checker of its own; and the next such, or null. */
-void shared_add_alone(struct process *process);
-struct process *shared_next_alone(void);
+void shared_add_alone(struct segment *segment);
+struct segment *shared_next_alone(void);
 
 #endif

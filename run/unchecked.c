@@ -79,15 +79,15 @@ static int open_where(const char *trace)
     return open(path, O_RDONLY | O_CLOEXEC | O_NONBLOCK);
 }
 
-void unchecked_take(const struct process *process)
+void unchecked_take(const struct segment *segment)
 {
     static char text[SIDE_UNCHECKED_ROOM + 1];
-    int from = process->trace != NULL ? open_where(process->trace) : process->side_memory;
-    ssize_t length = from >= 0 && process->side != NULL ? pread(from, text, SIDE_UNCHECKED_ROOM, SIDE_UNCHECKED) : 0;
-    if (process->trace != NULL && from >= 0)
+    int from = segment->trace != NULL ? open_where(segment->trace) : segment->side_memory;
+    ssize_t length = from >= 0 && segment->side != NULL ? pread(from, text, SIDE_UNCHECKED_ROOM, SIDE_UNCHECKED) : 0;
+    if (segment->trace != NULL && from >= 0)
         close(from);
     text[length > 0 ? length : 0] = 0;
-    take_skipped(process->skipped);
+    take_skipped(segment->outcome.skipped);
     if (strcmp(text, unchecked.last) == 0)
         return;
     strcpy(unchecked.last, text);

@@ -12,7 +12,7 @@
 enum unchecked { UNCHECKED_LIST, UNCHECKED_NO, UNCHECKED_ERROR };
 
 /* Takes what a process has, while its side memory or its file is there. */
-void unchecked_take(const struct process *process);
+void unchecked_take(const struct segment *segment);
 /* How many names there are, without those of libraries of the system. */
 size_t unchecked_count(void);
 /* Whether there are any, or libraries of the system. */

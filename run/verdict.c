@@ -13,6 +13,7 @@
 #include "deaths.h"
 #include "end_line.h"
 #include "say.h"
+#include "texts.h"
 
 const char *signal_name(int number)
 {
@@ -77,8 +78,6 @@ enum {
     BESIDE = 1 << 20,
     CONTRADICTION = 1 << 21
 };
-
-enum answer { COMPLETE, UP_TO_THERE, BEFORE_MAIN, UNCHECKED, INCOMPLETE };
 
 struct row {
     unsigned fates, endings, holds, lacks;
@@ -160,28 +159,28 @@ static const struct row rows[] = {
 };
 
 /* One more than the number of the last event that may be bad; 0: nobody says it. */
-static uint64_t needed_of(const struct process *process)
+static uint64_t needed_of(const struct segment *segment)
 {
-    return process->side != NULL ? side_progress(process->side).needed : 0;
+    return segment->side != NULL ? side_progress(segment->side).needed : 0;
 }
 
 /* Whether something bad has no event yet, by its word. */
-static bool has_noted(const struct process *process)
+static bool has_noted(const struct segment *segment)
 {
-    return process->side != NULL && side_progress(process->side).noted != 0;
+    return segment->side != NULL && side_progress(segment->side).noted != 0;
 }
 
-static bool is_bad_missing(const struct process *process)
+static bool is_bad_missing(const struct segment *segment)
 {
-    return needed_of(process) > process->events + 1 || has_noted(process);
+    return needed_of(segment) > segment->outcome.events + 1 || has_noted(segment);
 }
 
 /* What the words in capitals stand for. */
 
-static void put_how(const struct process *process, char *room, size_t size)
+static void put_how(const struct segment *segment, char *room, size_t size)
 {
     int status;
-    enum death death = death_of(process->peer, &status);
+    enum death death = death_of(segment->process->peer, &status);
     if (death == DEATH_SEEN && WIFSIGNALED(status))
         snprintf(room, size, "by %s", signal_name(WTERMSIG(status)));
     else if (death == DEATH_SEEN)
@@ -190,67 +189,67 @@ static void put_how(const struct process *process, char *room, size_t size)
         snprintf(room, size, "as by SIGKILL, or an _exit or exec in a library");
 }
 
-static void put_missing(const struct process *process, char *room, size_t size)
+static void put_missing(const struct segment *segment, char *room, size_t size)
 {
-    uint64_t needed = needed_of(process), next = process->events + 1;
+    uint64_t needed = needed_of(segment), next = segment->outcome.events + 1;
     if (needed > next)
         snprintf(room, size, "its last events were not seen, at least %" PRIu64, needed - next);
     else
         snprintf(room, size, "a bad access or free was not recorded before that");
 }
 
-static void put_checker(const struct process *process, char *room, size_t size)
+static void put_checker(const struct segment *segment, char *room, size_t size)
 {
-    int status = process->checker_status;
+    int status = segment->checker_status;
     if (WIFSIGNALED(status))
         snprintf(room, size, "%s", signal_name(WTERMSIG(status)));
     else
         snprintf(room, size, "%d", WEXITSTATUS(status));
 }
 
-static void put_signal(const struct process *process, char *room, size_t size)
+static void put_signal(const struct segment *segment, char *room, size_t size)
 {
-    uint64_t inside = process->side != NULL ? side_progress(process->side).inside : 0; /* also after it was lost */
-    snprintf(room, size, "%s", signal_name((int)(process->signal != 0 ? process->signal : inside)));
+    uint64_t inside = segment->side != NULL ? side_progress(segment->side).inside : 0; /* also after it was lost */
+    snprintf(room, size, "%s", signal_name((int)(segment->outcome.signal != 0 ? segment->outcome.signal : inside)));
 }
 
-static void put_events(const struct process *process, char *room, size_t size)
+static void put_events(const struct segment *segment, char *room, size_t size)
 {
-    snprintf(room, size, "%" PRIu64, process->events);
+    snprintf(room, size, "%" PRIu64, segment->outcome.events);
 }
 
-static void put_left(const struct process *process, char *room, size_t size)
+static void put_left(const struct segment *segment, char *room, size_t size)
 {
-    snprintf(room, size, "%" PRIu64, process->left_out);
+    snprintf(room, size, "%" PRIu64, segment->outcome.left_out);
 }
 
 /* One more than the limit stands in the stream, and says nothing. A checker with a greater limit has counted it. */
-static void put_all(const struct process *process, char *room, size_t size)
+static void put_all(const struct segment *segment, char *room, size_t size)
 {
-    bool has_mark = strcmp(process->fate, "no-close") == 0 && process->events > 0;
-    snprintf(room, size, "%" PRIu64, process->left_out + process->events - has_mark);
+    bool has_mark = strcmp(segment->outcome.fate, "no-close") == 0 && segment->outcome.events > 0;
+    snprintf(room, size, "%" PRIu64, segment->outcome.left_out + segment->outcome.events - has_mark);
 }
 
-static void put_lost(const struct process *process, char *room, size_t size)
+static void put_lost(const struct segment *segment, char *room, size_t size)
 {
-    snprintf(room, size, "%" PRIu64, side_progress(process->side).findings_lost);
+    snprintf(room, size, "%" PRIu64, side_progress(segment->side).findings_lost);
 }
 
 /* Why there is no side memory. */
-static void put_cause(const struct process *process, char *room, size_t size)
+static void put_cause(const struct segment *segment, char *room, size_t size)
 {
-    const char *cause = process->trace != NULL ? "record with ASANCOL_WHERE=1" : "no memory came with it";
-    snprintf(room, size, "%s", process->side_error != 0 ? strerror(process->side_error) : cause);
+    const char *cause = segment->trace != NULL ? "record with ASANCOL_WHERE=1" : "no memory came with it";
+    snprintf(room, size, "%s", segment->side_error != 0 ? strerror(segment->side_error) : cause);
 }
 
-static void put_fate(const struct process *process, char *room, size_t size)
+static void put_fate(const struct segment *segment, char *room, size_t size)
 {
-    snprintf(room, size, "%s", process->fate);
+    snprintf(room, size, "%s", segment->outcome.fate);
 }
 
 static const struct {
     const char *word;
-    void (*put)(const struct process *process, char *room, size_t size);
+    void (*put)(const struct segment *segment, char *room, size_t size);
 } words[] = {
     {"HOW", put_how},       {"MISSING", put_missing}, {"CHECKER", put_checker}, {"SIGNAL", put_signal},
     {"EVENTS", put_events}, {"LEFT", put_left},       {"ALL", put_all},         {"FATE", put_fate},
@@ -258,33 +257,33 @@ static const struct {
 };
 
 /* Puts what a word stands for, or the word. */
-static void put_word(const struct process *process, const char *word, size_t length, char *room, size_t size)
+static void put_word(const struct segment *segment, const char *word, size_t length, char *room, size_t size)
 {
     for (size_t i = 0; i < sizeof words / sizeof *words; i++) {
         if (strlen(words[i].word) == length && strncmp(words[i].word, word, length) == 0) {
-            words[i].put(process, room, size);
+            words[i].put(segment, room, size);
             return;
         }
     }
     snprintf(room, size, "%.*s", (int)length, word);
 }
 
-static void say_why(struct process *process, const char *text)
+static void say_why(struct segment *segment, enum answer answer, const char *text)
 {
     static const char capitals[] = "ABCDEFGHIJKLMNOPQRSTUVWXYZ_";
-    char made[sizeof process->why];
+    char made[WHY_ROOM];
     size_t used = 0;
     made[0] = 0;
     while (*text != 0) {
         size_t word = strspn(text, capitals), length = word > 0 ? word : strcspn(text, capitals);
-        put_word(process, text, length, made + used, sizeof made - used);
+        put_word(segment, text, length, made + used, sizeof made - used);
         used += strlen(made + used);
         text += length;
     }
-    memcpy(process->why, made, sizeof made);
+    outcome_set(&segment->outcome, answer, "%s", made);
 }
 
-static unsigned fate_of(const struct process *process)
+static unsigned fate_of(const struct segment *segment)
 {
     static const struct {
         const char *text;
@@ -294,36 +293,36 @@ static unsigned fate_of(const struct process *process)
         {"too-many", TOO_MANY},   {"no-memory", NO_MEMORY}, {"not-checked", NOT_CHECKED},
     };
     for (size_t i = 0; i < sizeof fates / sizeof *fates; i++)
-        if (strcmp(process->fate, fates[i].text) == 0)
+        if (strcmp(segment->outcome.fate, fates[i].text) == 0)
             return fates[i].fate;
-    if (process->is_unwritten && strcmp(process->fate, "malformed code") == 0)
+    if (segment->is_unwritten && strcmp(segment->outcome.fate, "malformed code") == 0)
         return UNWRITTEN;
-    return strncmp(process->fate, "malformed", strlen("malformed")) == 0 ? MALFORMED : OTHER_FATE;
+    return strncmp(segment->outcome.fate, "malformed", strlen("malformed")) == 0 ? MALFORMED : OTHER_FATE;
 }
 
 /* Whether the trace has all that the process recorded up to an end that the recorder saw. */
-static bool has_all(const struct process *process, unsigned fate)
+static bool has_all(const struct segment *segment, unsigned fate)
 {
-    uint32_t ending = process->ending;
+    uint32_t ending = segment->outcome.ending;
     /* Who goes on with the next segment looks again for what was noted in this one. */
-    if (ending != ENDING_SEGMENT && is_bad_missing(process))
+    if (ending != ENDING_SEGMENT && is_bad_missing(segment))
         return false;
-    if (process->is_closed_off && ending != ENDING_NONE && ending != ENDING_LOST) /* what is good need not be there */
-        return (fate & CUT_OFF) && needed_of(process) <= process->events + 1;
+    if (segment->outcome.is_closed_off && ending != ENDING_NONE && ending != ENDING_LOST) /* what is good need not be there */
+        return (fate & CUT_OFF) && needed_of(segment) <= segment->outcome.events + 1;
     if (fate != NO_CLOSE)
         return fate == CLOSED;
     if (ending == ENDING_EXIT) /* threads may have gone on until the system ended them */
-        return process->side->events <= process->events;
-    return (ending == ENDING_EXEC || ending == ENDING_SIGNAL) && process->side->events == process->events;
+        return segment->side->events <= segment->outcome.events;
+    return (ending == ENDING_EXEC || ending == ENDING_SIGNAL) && segment->side->events == segment->outcome.events;
 }
 
 /* Whether another program runs in the place of a process whose connection has ended: it runs still, or it has connected
    by itself. */
-static bool is_replaced(const struct process *process)
+static bool is_replaced(const struct segment *segment)
 {
-    if (has_other_image(process->peer))
+    if (has_other_image(segment->process->peer))
         return true;
-    const struct process *later = process;
+    const struct process *process = segment->process, *later = process;
     while ((later = process_next_of_peer(later)) != NULL)
         if (later->parent == process->parent && later->started != process->started)
             return true;
@@ -332,11 +331,11 @@ static bool is_replaced(const struct process *process)
 
 /* Whether the process does not run any more, or not this program: its connection may have ended since it has closed all
    descriptors. */
-static bool is_over(struct process *process)
+static bool is_over(struct segment *segment)
 {
     int status;
-    process->was_replaced |= is_replaced(process);
-    return process->was_replaced || death_of(process->peer, &status) != DEATH_NONE;
+    segment->outcome.was_replaced |= is_replaced(segment);
+    return segment->outcome.was_replaced || death_of(segment->process->peer, &status) != DEATH_NONE;
 }
 
 bool verdict_is_of_others(int number)
@@ -345,28 +344,28 @@ bool verdict_is_of_others(int number)
 }
 
 /* Whether another process has ended it, as far as that was seen. */
-static bool is_death_by_others(const struct process *process)
+static bool is_death_by_others(const struct segment *segment)
 {
     int status;
-    return death_of(process->peer, &status) == DEATH_SEEN && WIFSIGNALED(status)
+    return death_of(segment->process->peer, &status) == DEATH_SEEN && WIFSIGNALED(status)
            && verdict_is_of_others(WTERMSIG(status));
 }
 
 /* Whether a call of the recorder's own has ended the process, or a child of vfork before its exec, as where a filter
    ends whoever makes it. */
-static bool has_stopped(struct process *process)
+static bool has_stopped(struct segment *segment)
 {
     int status;
-    if (process->side == NULL || process->ending == ENDING_SEGMENT)
+    if (segment->side == NULL || segment->outcome.ending == ENDING_SEGMENT)
         return false;
-    struct side_progress progress = side_progress(process->side);
-    if (process->ending != ENDING_NONE && process->ending != ENDING_SIGNAL)
-        return progress.starts != 0 && (process->is_file || is_over(process)) && !is_death_by_others(process);
+    struct side_progress progress = side_progress(segment->side);
+    if (segment->outcome.ending != ENDING_NONE && segment->outcome.ending != ENDING_SIGNAL)
+        return progress.starts != 0 && (segment->process->source == SOURCE_FILES || is_over(segment)) && !is_death_by_others(segment);
     if (progress.calls == 0 && progress.starts == 0)
         return false;
-    if (process->ending == ENDING_SIGNAL)
-        return process->side->signal == SIGSYS;
-    enum death death = death_of(process->peer, &status);
+    if (segment->outcome.ending == ENDING_SIGNAL)
+        return segment->side->signal == SIGSYS;
+    enum death death = death_of(segment->process->peer, &status);
     bool is_other = death == DEATH_SEEN && !(WIFSIGNALED(status) && WTERMSIG(status) == SIGSYS);
     return death != DEATH_NONE && !is_other;
 }
@@ -382,20 +381,20 @@ static bool is_crash(unsigned number)
 }
 
 /* Whether the process came as far as main. What it is for was not seen if it did not. */
-static bool has_begun(const struct process *process)
+static bool has_begun(const struct segment *segment)
 {
-    return process->side == NULL || side_progress(process->side).has_begun != 0;
+    return segment->side == NULL || side_progress(segment->side).has_begun != 0;
 }
 
 /* Whether another process has ended it, as a parent ends a child that it needs no more. Of SIGKILL only the number is
    known. */
-static bool was_ended_by_others(const struct process *process)
+static bool was_ended_by_others(const struct segment *segment)
 {
-    if (process->side == NULL || process->reports + process->findings > 0)
+    if (segment->side == NULL || segment->outcome.reports + segment->outcome.findings > 0)
         return false;
-    if (process->ending == ENDING_SIGNAL)
-        return verdict_is_of_others((int)process->side->signal) && side_progress(process->side).sender != 0;
-    return is_death_by_others(process);
+    if (segment->outcome.ending == ENDING_SIGNAL)
+        return verdict_is_of_others((int)segment->side->signal) && side_progress(segment->side).sender != 0;
+    return is_death_by_others(segment);
 }
 
 static bool leaks_count;
@@ -407,59 +406,73 @@ void verdict_begin(bool counts_leaks, bool wants_mismatches)
     not_wanted = (uint64_t)(counts_leaks ? 0 : SKIPPED_LEAKS) | (wants_mismatches ? 0 : SKIPPED_FAMILIES);
 }
 
-bool verdict_is_clean(const struct process *process)
+bool verdict_is_clean(const struct segment *segment)
 {
-    struct side_progress progress = side_progress(process->side);
+    struct side_progress progress = side_progress(segment->side);
     uint64_t shown = progress.findings - (leaks_count ? 0 : progress.leaks);
     return progress.needed == 1 && progress.noted == 0 && progress.inside == 0 && shown == 0;
 }
 
-bool verdict_is_at_end(const struct process *process)
+bool verdict_is_at_end(const struct segment *segment)
 {
-    uint32_t ending = process->side->ending;
+    uint32_t ending = segment->side->ending;
     return ending == ENDING_EXIT || ending == ENDING_EXEC;
 }
 
 /* No process comes so far. What says more is no memory of a recorder's. */
 #define MAX_LEFT_GOOD (UINT64_C(1) << 48)
 
-static void read_children(struct process *process)
+static void read_children(struct segment *segment, uint64_t forks)
 {
-    pid_t children[SIDE_CHILDREN];
-    size_t count = process->side != NULL ? side_children(process->side, children) : 0;
-    process->child_count = count;
-    if (count == 0)
+    pid_t numbers[SIDE_CHILDREN];
+    size_t count = segment->side != NULL ? side_children(segment->side, numbers) : 0;
+    free(segment->children);
+    segment->children = NULL;
+    if (count == 0 && forks == 0)
         return;
-    process->children = must(realloc(process->children, count * sizeof *children));
-    memcpy(process->children, children, count * sizeof *children);
+    segment->children = must(malloc(sizeof *segment->children + count * sizeof *numbers));
+    segment->children->forks = forks;
+    segment->children->count = count;
+    memcpy(segment->children->numbers, numbers, count * sizeof *numbers);
+}
+
+static void read_findings(struct outcome *outcome, const struct side_progress *progress, uint32_t entries)
+{
+    uint32_t findings = progress->findings < entries ? (uint32_t)progress->findings : entries;
+    outcome->leaks = leaks_count ? 0 : progress->leaks < findings ? (uint32_t)progress->leaks : findings;
+    outcome->findings = findings - outcome->leaks;
+    outcome->leaks_missed = progress->leaks_missed != 0;
+}
+
+/* Who has forked its process, and what that has started. */
+static void read_kin(struct segment *segment, const struct side_progress *progress)
+{
+    struct process *process = segment->process;
+    read_children(segment, progress->forks);
+    segment->becomes = progress->becomes != 0 && segment->outcome.ending == ENDING_EXEC;
+    if (progress->of_parent_started == 0)
+        return;
+    process->of_parent = (int)progress->of_parent;
+    process->of_parent_started = progress->of_parent_started;
 }
 
 /* Takes what the recorder says of its end, and of what the stream has. */
-static void read_side(struct process *process)
+static void read_side(struct segment *segment)
 {
-    const struct side *side = process->side;
-    process->ending = side != NULL ? side->ending : ENDING_NONE;
-    process->left_out = side != NULL ? side->left_out : 0;
-    process->has_checks = !process->is_mark && (side == NULL || side->has_checks != 0);
-    process->signal = process->ending == ENDING_SIGNAL ? side->signal : 0;
+    const struct side *side = segment->side;
+    struct outcome *outcome = &segment->outcome;
+    outcome->ending = side != NULL ? side->ending : ENDING_NONE;
+    outcome->left_out = side != NULL ? side->left_out : 0;
+    outcome->has_checks = !process_is_unseen(segment->process) && (side == NULL || side->has_checks != 0);
+    outcome->signal = outcome->ending == ENDING_SIGNAL ? side->signal : 0;
     struct side_progress progress = side != NULL ? side_progress(side) : (struct side_progress){0};
-    process->stated = progress.stated;
-    process->left_good = progress.left_good <= MAX_LEFT_GOOD ? progress.left_good : 0;
-    uint64_t entries = side != NULL ? side_entries(side) : 0; /* after the progress: both grow */
-    process->findings = progress.findings < entries ? progress.findings : entries;
-    process->leaks = leaks_count ? 0 : progress.leaks < process->findings ? progress.leaks : process->findings;
-    process->findings -= process->leaks;
-    process->leaks_missed = progress.leaks_missed != 0;
-    process->skipped = progress.skipped & ~not_wanted;
-    process->used_again = progress.used_again < ADDRESS_END ? progress.used_again : ADDRESS_END;
-    process->forks = progress.forks;
-    read_children(process);
-    process->is_closed_off = progress.closed_off != 0;
-    process->becomes = progress.becomes != 0 && process->ending == ENDING_EXEC;
-    process->of_parent = (int)progress.of_parent;
-    process->of_parent_started = progress.of_parent_started;
-    if (process->stated > process->events)
-        process->stated = process->events;
+    read_findings(outcome, &progress, side != NULL ? side_entries(side) : 0); /* after the progress: both grow */
+    outcome->stated = progress.stated < outcome->events ? progress.stated : outcome->events;
+    outcome->left_good = progress.left_good <= MAX_LEFT_GOOD ? progress.left_good : 0;
+    outcome->skipped = progress.skipped & ~not_wanted;
+    outcome->used_again = progress.used_again < ADDRESS_END ? progress.used_again : ADDRESS_END;
+    outcome->is_closed_off = progress.closed_off != 0;
+    read_kin(segment, &progress);
 }
 
 /* Whether what its recorder says of it can't be: it writes an entry of the list before it counts a finding. */
@@ -469,55 +482,55 @@ static bool contradicts_itself(const struct side *side)
     return progress.needed == 0 || progress.leaks > progress.findings || progress.findings > side_entries(side);
 }
 
-static unsigned limit_of(const struct process *process)
+static unsigned limit_of(const struct outcome *outcome)
 {
-    return LIMIT | (process->left_out != 0 ? LEFT_OUT : 0) | (process->settings.is_one ? ONE_SEGMENT : 0);
+    return LIMIT | (outcome->left_out != 0 ? LEFT_OUT : 0) | (outcome->is_one ? ONE_SEGMENT : 0);
 }
 
 /* Of one that said nothing of its end. */
-static unsigned look_if_gone(struct process *process)
+static unsigned look_if_gone(struct segment *segment)
 {
-    bool is_gone = is_over(process);
-    return (is_gone ? GONE : 0) | (process->was_replaced ? REPLACED : 0);
+    bool is_gone = is_over(segment);
+    return (is_gone ? GONE : 0) | (segment->outcome.was_replaced ? REPLACED : 0);
 }
 
-static unsigned facts_of(struct process *process, unsigned fate)
+static unsigned facts_of(struct segment *segment, unsigned fate)
 {
     unsigned facts = 0;
-    if (process->cut != CUT_NONE)
-        facts |= process->cut == CUT_BY_WAIT ? BY_WAIT : BY_TIMEOUT;
-    if (fate == NOT_CHECKED && WIFSIGNALED(process->checker_status))
+    if (segment->cut != CUT_NONE)
+        facts |= segment->cut == CUT_BY_WAIT ? BY_WAIT : BY_TIMEOUT;
+    if (fate == NOT_CHECKED && WIFSIGNALED(segment->checker_status))
         facts |= KILLED;
-    if (process->left_out != 0 || (process->side != NULL && process->side->is_at_limit != 0))
-        facts |= limit_of(process);
-    if (is_bad_missing(process))
+    if (segment->outcome.left_out != 0 || (segment->side != NULL && segment->side->is_at_limit != 0))
+        facts |= limit_of(&segment->outcome);
+    if (is_bad_missing(segment))
         facts |= BAD_MISSING;
-    else if (needed_of(process) != 0)
+    else if (needed_of(segment) != 0)
         facts |= NONE_MISSING;
-    if (has_all(process, fate))
+    if (has_all(segment, fate))
         facts |= ALL_CAME;
-    if (has_stopped(process))
+    if (has_stopped(segment))
         facts |= OWN_CALL;
-    if (process->ending == ENDING_NONE && (facts & NONE_MISSING) && (fate & CUT_OFF))
-        facts |= look_if_gone(process);
-    if (process->side != NULL && side_progress(process->side).findings_lost != 0)
+    if (segment->outcome.ending == ENDING_NONE && (facts & NONE_MISSING) && (fate & CUT_OFF))
+        facts |= look_if_gone(segment);
+    if (segment->side != NULL && side_progress(segment->side).findings_lost != 0)
         facts |= FINDINGS_LOST;
-    if (process->side != NULL && side_progress(process->side).inside != 0)
+    if (segment->side != NULL && side_progress(segment->side).inside != 0)
         facts |= INSIDE;
-    if (leaks_count && process->leaks_missed)
+    if (leaks_count && segment->outcome.leaks_missed)
         facts |= LEAKS_MISSED;
-    facts |= process->is_closed_off ? CLOSED_OFF : 0;
-    facts |= was_ended_by_others(process) ? BY_OTHERS : 0;
-    if (process->side != NULL)
-        facts |= BESIDE | (contradicts_itself(process->side) ? CONTRADICTION : 0);
-    facts |= process->is_file ? FILE_ALONE : 0;
-    return facts | (process->has_checks ? CHECKS : 0) | (has_begun(process) ? MAIN : 0);
+    facts |= segment->outcome.is_closed_off ? CLOSED_OFF : 0;
+    facts |= was_ended_by_others(segment) ? BY_OTHERS : 0;
+    if (segment->side != NULL)
+        facts |= BESIDE | (contradicts_itself(segment->side) ? CONTRADICTION : 0);
+    facts |= segment->process->source == SOURCE_FILES ? FILE_ALONE : 0;
+    return facts | (segment->outcome.has_checks ? CHECKS : 0) | (has_begun(segment) ? MAIN : 0);
 }
 
 /* A process may say anything. */
-static unsigned ending_of(const struct process *process)
+static unsigned ending_of(const struct segment *segment)
 {
-    return process->ending <= ENDING_SEGMENT ? 1u << process->ending : OTHER_ENDING;
+    return segment->outcome.ending <= ENDING_SEGMENT ? 1u << segment->outcome.ending : OTHER_ENDING;
 }
 
 static const struct row *find_row(unsigned fate, unsigned ending, unsigned facts)
@@ -529,58 +542,56 @@ static const struct row *find_row(unsigned fate, unsigned ending, unsigned facts
     return row;
 }
 
-void verdict_blame_limit(struct process *process)
+void verdict_blame_limit(struct outcome *outcome)
 {
-    process->is_cut_at_limit = true;
-    say_why(process, find_row(OTHER_FATE, OTHER_ENDING, limit_of(process))->why);
+    struct segment whole = {.outcome = *outcome}; /* the words of these rows need no more */
+    say_why(&whole, INCOMPLETE, find_row(OTHER_FATE, OTHER_ENDING, limit_of(outcome))->why);
+    *outcome = whole.outcome;
+    outcome->is_cut_at_limit = true;
 }
 
 /* The signal that has ended a process without its recorder's knowledge, or 0. */
-static unsigned unheard_signal(const struct process *process)
+static unsigned unheard_signal(const struct segment *segment)
 {
     int status;
-    bool is_seen = death_of(process->peer, &status) == DEATH_SEEN && WIFSIGNALED(status);
+    bool is_seen = death_of(segment->process->peer, &status) == DEATH_SEEN && WIFSIGNALED(status);
     return is_seen ? (unsigned)WTERMSIG(status) : 0;
 }
 
 /* Whether the process may still say that it did not end so: an exec may fail, and it may go on. */
-static bool may_take_back(struct process *process)
+static bool may_take_back(struct segment *segment)
 {
-    bool tries_exec = process->ending == ENDING_EXEC || side_progress(process->side).starts != 0;
-    return tries_exec && !is_over(process);
+    bool tries_exec = segment->outcome.ending == ENDING_EXEC || side_progress(segment->side).starts != 0;
+    return tries_exec && !is_over(segment);
 }
 
 /* What is read from a file does not change any more; what is past the limit may still grow, and an event of a segment
    may be left out as long as the process runs. How a process has died may be known only after its connection. */
-static bool is_settled(struct process *process, unsigned fate, unsigned facts)
+static bool is_settled(struct segment *segment, unsigned fate, unsigned facts)
 {
-    uint32_t ending = process->ending;
-    if (process->trace != NULL)
+    uint32_t ending = segment->outcome.ending;
+    if (segment->trace != NULL)
         return true;
-    if (process->side == NULL)
+    if (segment->side == NULL)
         return !(fate & CUT_OFF);
     return !(facts & (LIMIT | OWN_CALL)) && ending != ENDING_NONE && ending != ENDING_SEGMENT
-           && !may_take_back(process);
+           && !may_take_back(segment);
 }
 
-static void judge(struct process *process)
+static void judge(struct segment *segment)
 {
-    read_side(process);
-    unsigned fate = fate_of(process), facts = facts_of(process, fate);
-    uint32_t ending = process->ending;
-    const struct row *row = find_row(fate, ending_of(process), facts);
-    enum answer answer = row->answer;
-    process->is_complete = answer == COMPLETE || answer == UP_TO_THERE;
-    process->is_unchecked = answer == UNCHECKED;
-    process->is_abrupt = answer == UP_TO_THERE;
-    process->is_cut_at_limit = row->holds & LIMIT;
-    bool is_unheard = ending == ENDING_NONE && !(facts & REPLACED);
-    if ((answer == UP_TO_THERE || answer == BEFORE_MAIN) && is_unheard)
-        process->signal = unheard_signal(process);
-    process->is_crash = is_crash(process->signal);
-    process->is_ignored = process->is_crash && ignores_deaths(process->parent);
-    say_why(process, row->why);
-    process->is_settled = is_settled(process, fate, facts);
+    struct outcome *outcome = &segment->outcome;
+    read_side(segment);
+    unsigned fate = fate_of(segment), facts = facts_of(segment, fate);
+    const struct row *row = find_row(fate, ending_of(segment), facts);
+    outcome->is_cut_at_limit = row->holds & LIMIT;
+    bool is_unheard = outcome->ending == ENDING_NONE && !(facts & REPLACED);
+    if ((row->answer == UP_TO_THERE || row->answer == BEFORE_MAIN) && is_unheard)
+        outcome->signal = unheard_signal(segment);
+    outcome->is_crash = is_crash(outcome->signal);
+    outcome->is_ignored = outcome->is_crash && ignores_deaths(segment->process->parent);
+    say_why(segment, row->answer, row->why);
+    outcome->is_settled = is_settled(segment, fate, facts);
 }
 
 /* Whether a zero comes next: room that the recorder made in a file, and did not come to use. */
@@ -594,38 +605,34 @@ static bool goes_on_with_zero(const char *trace, uint64_t offset)
     return is_read && byte == 0;
 }
 
-static void read_end_line(struct process *process)
+static void read_end_line(struct segment *segment)
 {
     struct end_line end;
-    bool is_read = end_line_find(process->verdicts, &end);
-    process->events = end.events;
-    process->reports = end.reports;
-    process->is_unwritten = process->trace != NULL && goes_on_with_zero(process->trace, end.offset);
-    snprintf(process->fate, sizeof process->fate, "%s", is_read ? end.fate : "not-checked");
+    struct outcome *outcome = &segment->outcome;
+    bool is_read = end_line_find(segment->verdicts, &end);
+    outcome->events = end.events;
+    outcome->reports = end.reports;
+    segment->is_unwritten = segment->trace != NULL && goes_on_with_zero(segment->trace, end.offset);
+    outcome->fate = text_kept(is_read ? end.fate : "not-checked");
 }
 
-void verdict_read(struct process *process)
+void verdict_read(struct segment *segment, const char *cause)
 {
-    char cause[sizeof process->why];
-    memcpy(cause, process->why, sizeof cause);
-    read_end_line(process);
-    judge(process);
-    if (cause[0] != 0) {
-        memcpy(process->why, cause, sizeof cause);
-        process->is_complete = false;
-        process->is_settled = true;
-    }
+    read_end_line(segment);
+    judge(segment);
+    if (cause == NULL)
+        return;
+    outcome_set(&segment->outcome, INCOMPLETE, "%s", cause);
+    segment->outcome.is_settled = true;
 }
 
-bool verdict_again(struct process *process)
+bool verdict_again(struct segment *segment)
 {
-    char before[sizeof process->why];
-    bool was_complete = process->is_complete;
-    uint64_t left_out = process->left_out;
-    if (process->is_settled)
+    struct outcome before = segment->outcome, *outcome = &segment->outcome;
+    if (before.is_settled)
         return false;
-    memcpy(before, process->why, sizeof before);
-    judge(process);
-    process->is_settled = true;
-    return was_complete != process->is_complete || left_out != process->left_out || strcmp(before, process->why) != 0;
+    judge(segment);
+    outcome->is_settled = true;
+    return outcome_is_complete(&before) != outcome_is_complete(outcome) || before.left_out != outcome->left_out
+           || before.why != outcome->why;
 }

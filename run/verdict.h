@@ -11,16 +11,16 @@
 void verdict_begin(bool counts_leaks, bool wants_mismatches);
 /* Of one with a side memory: whether nothing bad stands there that a report would show; and whether it has ended by an
    exit or an exec. */
-bool verdict_is_clean(const struct process *process);
-bool verdict_is_at_end(const struct process *process);
-/* Reads what its checker has printed, and judges. Before that, why may say why it was not checked. */
-void verdict_read(struct process *process);
+bool verdict_is_clean(const struct segment *segment);
+bool verdict_is_at_end(const struct segment *segment);
+/* Reads what its checker has printed, and judges. The cause says why it was not checked; null: it was. */
+void verdict_read(struct segment *segment, const char *cause);
 /* Judges again what was not settled: how it ended, and how many events were left out. True if this has changed
    something. */
-bool verdict_again(struct process *process);
+bool verdict_again(struct segment *segment);
 
 /* Says of one that is incomplete that it went on after the limit of events. */
-void verdict_blame_limit(struct process *process);
+void verdict_blame_limit(struct outcome *outcome);
 
 /* Whether a signal of this number is of another process, and none of a mistake. */
 bool verdict_is_of_others(int number);

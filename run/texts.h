@@ -1,0 +1,7 @@
+/* Texts that many processes have in common, such as their names: each is held once, up to the end of the run. */
+#ifndef ASANCOL_RUN_TEXTS_H
+#define ASANCOL_RUN_TEXTS_H
+
+const char *text_kept(const char *text);
+
+#endif
