@@ -14,6 +14,7 @@
 #include <unistd.h>
 
 #include "common/text.h"
+#include "arrivals.h"
 #include "asking.h"
 #include "checkers.h"
 #include "children.h"
@@ -59,8 +60,6 @@ static struct {
     int status;
     size_t descriptors, base; /* how many there may be, and are without processes */
     size_t done;              /* processes, at the last look */
-    struct segment **pending; /* that have not been given a checker yet */
-    size_t pending_count, pending_room;
 } run;
 
 static void count_descriptors(void)
@@ -86,6 +85,7 @@ static void hold_processes(void)
     if (run.descriptors < run.base + HELD_BY_PROCESS)
         return;
     held_begin();
+    arrivals_begin();
     count_descriptors();
 }
 
@@ -93,15 +93,6 @@ static bool has_room(void)
 {
     size_t held = run.base + HELD_BY_PROCESS * segment_live_count() + report_held() + modules_held();
     return now() >= run.short_until && (segment_live_count() == 0 || held + HELD_BY_PROCESS <= run.descriptors);
-}
-
-static void add_pending(struct segment *segment)
-{
-    if (run.pending_count == run.pending_room) {
-        run.pending_room = run.pending_room * 2 + 16;
-        run.pending = must(realloc(run.pending, run.pending_room * sizeof(struct segment *)));
-    }
-    run.pending[run.pending_count++] = segment;
 }
 
 /* What has come in is still checked. The process runs on. */
@@ -152,7 +143,7 @@ static void add_connection(int connection, const struct ucred *peer)
     segment->connection = connection;
     process_set_peer(segment->process, peer->pid);
     segment->cut = run.has_timed_out ? CUT_BY_TIMEOUT : CUT_NONE;
-    add_pending(segment);
+    arrivals_add(segment);
     if (run.cut != 0)
         cut_segment(segment);
 }
@@ -242,24 +233,28 @@ static void read_signals(void)
     reap();
 }
 
-/* Those that have sent their first bytes wait for others, or have checkers started. The command itself does not wait:
-   none comes after it. */
-static void start_pending(const struct pollfd *polls)
+/* One that has sent its first bytes waits for others, or its checker is started; unless it has only asked for something.
+   The command itself does not wait: none comes after it. False: there are no resources now. */
+static bool start_arrived(struct segment *segment)
 {
-    size_t kept = 0, count = run.pending_count;
-    for (size_t i = 0; i < count; i++) {
-        struct segment *segment = run.pending[i];
-        bool is_started = segment->stage != STAGE_CONNECTED, is_aside = segment->aside >= 0;
-        bool has_come = is_aside || polls[i].revents != 0;
-        if (!is_started && has_come && now() >= run.short_until && (is_aside || !checker_answers(segment))) {
-            is_started = (segment->process->peer != run.command && held_take(segment)) || checker_start(segment);
-            if (!is_started)
-                run.short_until = now() + SHORTAGE;
-        }
-        if (!is_started)
-            run.pending[kept++] = segment;
+    if (segment->aside < 0 && checker_answers(segment)) {
+        arrivals_add(segment);
+        return true;
     }
-    run.pending_count = kept;
+    return (segment->process->peer != run.command && held_take(segment)) || checker_start(segment);
+}
+
+static void start_arrivals(bool is_ready)
+{
+    struct segment *segment;
+    if (is_ready)
+        arrivals_find();
+    while (now() >= run.short_until && (segment = arrivals_next()) != NULL) {
+        if (start_arrived(segment))
+            continue;
+        arrivals_add_ready(segment);
+        run.short_until = now() + SHORTAGE;
+    }
 }
 
 /* Those whose streams are small: checks what is due, and takes back who needs a checker of its own. */
@@ -268,30 +263,31 @@ static void take_held(bool is_ready, bool hurries)
     struct segment *segment;
     held_look(is_ready);
     shared_start(hurries || run.ended != 0);
-    while ((segment = shared_next_alone()) != NULL)
-        add_pending(segment);
+    while ((segment = shared_next_alone()) != NULL) {
+        if (segment->aside >= 0)
+            arrivals_add_ready(segment);
+        else
+            arrivals_add(segment);
+    }
 }
 
 /* How many seconds nothing is due, at most as many. */
 static double until_due(double seconds, bool is_short)
 {
     double first = held_due() < shared_due() ? held_due() : shared_due(), left = first - now();
-    for (size_t i = 0; !is_short && i < run.pending_count; i++)
-        if (run.pending[i]->aside >= 0)
-            return 0;
+    if (!is_short && arrivals_are_ready())
+        return 0;
     return left >= seconds ? seconds : left > 0 ? left : 0;
 }
+
+/* What is polled in a turn: the same few, however many processes there are. */
+enum { SIGNALS, FIRST, SECOND, REPORT, HELD, ARRIVALS, ASKING, MOST_POLLS = ASKING + ASKING_POLLS };
 
 /* poll refuses more entries than a process may have descriptors, and counts those that it passes over. */
 static int poll_used(struct pollfd *polls, size_t count, int timeout)
 {
-    static struct pollfd *used;
-    static size_t room;
+    struct pollfd used[MOST_POLLS];
     size_t next = 0;
-    if (room < count) {
-        room = 2 * count;
-        used = must(realloc(used, room * sizeof *used));
-    }
     for (size_t i = 0; i < count; i++) {
         polls[i].revents = 0;
         if (polls[i].fd >= 0)
@@ -307,33 +303,25 @@ static int poll_used(struct pollfd *polls, size_t count, int timeout)
 /* Waits once, at most so long, and does what there is to do. */
 static void turn(double seconds)
 {
-    enum { SIGNALS, FIRST, SECOND, REPORT, HELD, ASKING, FIXED = ASKING + ASKING_POLLS };
-    static struct pollfd *polls;
-    static size_t room;
-    size_t count = run.pending_count;
+    struct pollfd polls[MOST_POLLS];
     bool is_short = now() < run.short_until, accepts = has_room();
-    if (room < count + FIXED) {
-        room = 2 * count + FIXED;
-        polls = must(realloc(polls, room * sizeof *polls));
-    }
     polls[SIGNALS] = (struct pollfd){run.signals, POLLIN, 0};
     for (int i = 0; i < HUB_LISTENERS; i++) /* -1 is passed over */
         polls[FIRST + i] = (struct pollfd){accepts ? hub_listeners()[i] : -1, POLLIN, 0};
     polls[REPORT] = report_poll();
     polls[HELD] = held_poll();
+    polls[ARRIVALS] = is_short ? (struct pollfd){-1, 0, 0} : arrivals_poll();
     seconds = until_due(seconds, is_short);
     seconds = asking_polls(polls + ASKING, seconds);
-    for (size_t i = 0; i < count; i++)
-        polls[FIXED + i] = (struct pollfd){is_short ? -1 : run.pending[i]->connection, POLLIN, 0};
     if ((is_short || report_held() > 0) && seconds > SHORTAGE)
         seconds = SHORTAGE; /* a report that does not take descriptors now shows no sign when it does */
-    if (poll_used(polls, count + FIXED, (int)(seconds * 1000) + (seconds > 0)) < 0)
+    if (poll_used(polls, MOST_POLLS, (int)(seconds * 1000) + (seconds > 0)) < 0)
         return;
     if (polls[SIGNALS].revents != 0)
         read_signals();
     report_send();
     asking_take(polls + ASKING);
-    start_pending(polls + FIXED);
+    start_arrivals(polls[ARRIVALS].revents != 0);
     take_held(polls[HELD].revents != 0, !accepts);
     for (int i = 0; i < HUB_LISTENERS; i++)
         if (polls[FIRST + i].revents != 0)

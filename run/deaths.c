@@ -10,41 +10,41 @@
 #include "common/format.h"
 #include "say.h"
 
+/* How the last process of a number has ended: the system gives numbers again. */
 struct noted {
-    pid_t number;
     int status;
+    bool is_there;
     bool is_ours; /* and not as a parent knows it */
 };
 
-static struct noted *noted;
-static size_t count, room;
+/* No system gives a greater number. They are in pages, which are made when they are needed. */
+enum { MAX_NUMBER = 1 << 22, PAGE = 1 << 10 };
+static struct noted *pages[MAX_NUMBER / PAGE];
 
-static void note(struct noted one)
+static void note(pid_t number, int status, bool is_ours)
 {
-    if (count == room) {
-        room = room * 2 + 64;
-        noted = must(realloc(noted, room * sizeof *noted));
-    }
-    noted[count++] = one;
+    if (number < 0 || number >= MAX_NUMBER)
+        return;
+    struct noted **page = &pages[number / PAGE];
+    if (*page == NULL)
+        *page = must(calloc(PAGE, sizeof(struct noted)));
+    (*page)[number % PAGE] = (struct noted){status, true, is_ours};
 }
 
 void death_note(pid_t number, int status)
 {
-    note((struct noted){number, status, true});
+    note(number, status, true);
 }
 
 void death_note_of_parent(pid_t number, int status)
 {
-    note((struct noted){number, status, false});
+    note(number, status, false);
 }
 
-/* The last of this number counts: the system gives numbers again. */
 static const struct noted *find_noted(pid_t number)
 {
-    for (size_t i = count; i > 0; i--)
-        if (noted[i - 1].number == number)
-            return &noted[i - 1];
-    return NULL;
+    const struct noted *page = number >= 0 && number < MAX_NUMBER ? pages[number / PAGE] : NULL;
+    return page != NULL && page[number % PAGE].is_there ? &page[number % PAGE] : NULL;
 }
 
 /* Numbers of the words after the name in /proc/NUMBER/stat, as proc(5) counts them. */

@@ -331,6 +331,8 @@ static bool is_parent_of_one(void)
 static bool is_left(const char *number)
 {
     struct kin kin;
+    if (column == 0 && child_is_ours(atoi(number)))
+        return false; /* without a look at each checker */
     if (read_kin(number, &kin))
         return !kin.is_zombie && is_of_command(&kin);
     /* It is gone, or hidden from us, as one of another user may be (hidepid). */

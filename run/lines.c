@@ -2,6 +2,7 @@
 #include "lines.h"
 
 #include <inttypes.h>
+#include <search.h>
 #include <stdio.h>
 #include <stdlib.h>
 #include <string.h>
@@ -38,6 +39,13 @@ struct line {
     char *text;
     size_t count;
     int first[3];
+    struct line *next;
+};
+
+/* Lines in the order of their first processes, and by their texts. */
+struct lines {
+    struct line *first, **end;
+    void *by_text;
 };
 
 static void say_one(const struct line *line)
@@ -73,31 +81,53 @@ static char *line_of(const struct process *process, bool is_quiet, bool has_cras
     return text;
 }
 
+static int compare(const void *left, const void *right)
+{
+    const struct line *one = left, *other = right;
+    return strcmp(one->text, other->text);
+}
+
+/* The line of this text, which it takes. */
+static struct line *line_with(struct lines *lines, char *text)
+{
+    const struct line key = {.text = text};
+    struct line *const *found = tfind(&key, &lines->by_text, compare);
+    if (found != NULL) {
+        free(text);
+        return *found;
+    }
+    struct line *made = must(calloc(1, sizeof *made));
+    made->text = text;
+    must(tsearch(made, &lines->by_text, compare));
+    *lines->end = made;
+    lines->end = &made->next;
+    return made;
+}
+
+static void leave(void *line)
+{
+    (void)line; /* it is in the list, too */
+}
+
 void lines_say(bool is_quiet, bool has_crashes)
 {
-    struct line *lines = NULL;
-    size_t count = 0;
+    struct lines lines = {0};
     const struct process *process;
-    for (size_t i = 0; (process = process_next(&i)) != NULL;) {
+    lines.end = &lines.first;
+    for (size_t at = 0; (process = process_next(&at)) != NULL;) {
         char *text = line_of(process, is_quiet, has_crashes);
-        size_t at = 0;
         if (text == NULL)
             continue;
-        while (at < count && strcmp(lines[at].text, text) != 0)
-            at++;
-        if (at == count) {
-            lines = must(realloc(lines, ++count * sizeof *lines));
-            lines[at] = (struct line){.text = text};
-        } else {
-            free(text);
-        }
-        if (lines[at].count < sizeof lines->first / sizeof *lines->first)
-            lines[at].first[lines[at].count] = process->own_number;
-        lines[at].count++;
+        struct line *line = line_with(&lines, text);
+        if (line->count < sizeof line->first / sizeof *line->first)
+            line->first[line->count] = process->own_number;
+        line->count++;
     }
-    for (size_t at = 0; at < count; at++) {
-        say_one(&lines[at]);
-        free(lines[at].text);
+    tdestroy(lines.by_text, leave);
+    for (struct line *line = lines.first, *next; line != NULL; line = next) {
+        say_one(line);
+        next = line->next;
+        free(line->text);
+        free(line);
     }
-    free(lines);
 }

@@ -102,19 +102,26 @@ void marks_take_word(pid_t number, char *text)
     take_unseen(&mark);
 }
 
-/* Whether the process has connected since the mark was made, or has left a word that says more. Its number may have
-   been another one's before. */
+/* Whether a process is the one of the mark: it has connected since that was made, or has left a word that says more.
+   Its number may have been another one's before. */
+static bool is_of(const struct mark *mark, const struct process *process)
+{
+    if (process_is_unseen(process))
+        return process->source == SOURCE_WORD;
+    return process->started == 0 || process->started > mark->made;
+}
+
 static bool has_come(const struct mark *mark)
 {
-    const struct process *process;
-    for (size_t at = 0; (process = process_next(&at)) != NULL;) {
-        bool is_its = process->own_number == mark->number || process->peer == mark->number;
-        bool has_word = process->source == SOURCE_WORD;
-        bool has_stream = !process_is_unseen(process) && (process->started == 0 || process->started > mark->made);
-        if (is_its && (has_word || has_stream))
-            return true;
-    }
-    return false;
+    const struct process *at = process_of_peer(mark->number);
+    while (at != NULL && !is_of(mark, at))
+        at = process_next_of_peer(at);
+    if (at != NULL)
+        return true;
+    at = process_of_own_number(mark->number);
+    while (at != NULL && !is_of(mark, at))
+        at = process_next_of_own_number(at);
+    return at != NULL;
 }
 
 /* It had connected, and sent nothing: it had no time to begin, since its parent has ended it, or who may. */
@@ -147,11 +154,49 @@ static void take_expected(struct mark *mark)
         explain(word_of(mark->number), UP_TO_THERE, mark->why);
 }
 
-/* Children that others have ended and that did not come, by their parents. */
+/* Children that others have ended and that did not come: once all are there, in the order of their parents. */
 static struct killed {
-    int number, parent, signal;
+    int parent, number, signal;
+    size_t order; /* in which they were found */
+    size_t done;  /* of the first of a parent: how many of its were looked at */
 } * killed;
-static size_t killed_count;
+static size_t killed_count, killed_room;
+static bool is_sorted;
+
+static void add_killed(int number, int parent, int signal)
+{
+    if (killed_count == killed_room) {
+        killed_room = killed_room * 2 + 16;
+        killed = must(realloc(killed, killed_room * sizeof *killed));
+    }
+    killed[killed_count] = (struct killed){parent, number, signal, killed_count, 0};
+    killed_count++;
+}
+
+static int by_parent(const void *left, const void *right)
+{
+    const struct killed *one = left, *other = right;
+    if (one->parent != other->parent)
+        return one->parent > other->parent ? 1 : -1;
+    return (one->order > other->order) - (one->order < other->order);
+}
+
+/* The first of this parent, or the end. */
+static size_t first_killed(int parent)
+{
+    size_t from = 0, to = killed_count;
+    if (!is_sorted && killed_count > 0)
+        qsort(killed, killed_count, sizeof *killed, by_parent);
+    is_sorted = true;
+    while (from < to) {
+        size_t middle = from + (to - from) / 2;
+        if (killed[middle].parent < parent)
+            from = middle + 1;
+        else
+            to = middle;
+    }
+    return from;
+}
 
 /* How a process has ended, as its parent knows: the text has the parent's number, and that of the signal. */
 static void take_killed(struct mark *mark)
@@ -168,8 +213,7 @@ static void take_killed(struct mark *mark)
         excuse_word(word, number);
         return;
     }
-    killed = must(realloc(killed, (killed_count + 1) * sizeof *killed));
-    killed[killed_count++] = (struct killed){mark->number, atoi(mark->program), number};
+    add_killed(mark->number, atoi(mark->program), number);
 }
 
 static void excuse_child(pid_t number, const struct process *parent, int signal)
@@ -221,12 +265,16 @@ static bool excuse_orphan(const struct process *parent)
 
 bool marks_excuse_child(const struct process *parent)
 {
-    for (size_t i = 0; i < killed_count; i++) {
-        if (killed[i].parent != parent->own_number || word_of(killed[i].number) != NULL)
-            continue;
-        killed[i].parent = 0;
-        excuse_child(killed[i].number, parent, killed[i].signal);
-        return true;
+    size_t first = first_killed(parent->own_number);
+    while (first < killed_count) {
+        const struct killed *child = &killed[first + killed[first].done];
+        if (child == &killed[killed_count] || child->parent != parent->own_number)
+            break;
+        killed[first].done++;
+        if (word_of(child->number) == NULL) {
+            excuse_child(child->number, parent, child->signal);
+            return true;
+        }
     }
     return excuse_orphan(parent);
 }

@@ -22,6 +22,7 @@ struct bucket {
 
 static struct process **processes;
 static struct bucket by_peer[PEER_BUCKETS];
+static struct process *by_own_number[PEER_BUCKETS];
 static size_t count, room, live;
 
 static struct process *add(void)
@@ -99,6 +100,32 @@ struct process *process_next_of_peer(const struct process *process)
     return find_peer(process->peer_next, process->peer);
 }
 
+static void note_own_number(struct process *process)
+{
+    struct process **bucket = &by_own_number[(unsigned)process->own_number % PEER_BUCKETS];
+    if (process->own_number == process->peer)
+        return;
+    process->own_next = *bucket;
+    *bucket = process;
+}
+
+static struct process *find_own_number(struct process *from, int number)
+{
+    while (from != NULL && from->own_number != number)
+        from = from->own_next;
+    return from;
+}
+
+struct process *process_of_own_number(int number)
+{
+    return find_own_number(by_own_number[(unsigned)number % PEER_BUCKETS], number);
+}
+
+struct process *process_next_of_own_number(const struct process *process)
+{
+    return find_own_number(process->own_next, process->own_number);
+}
+
 bool segment_has_hung_up(const struct segment *segment)
 {
     struct pollfd end = {segment->connection, POLLRDHUP, 0};
@@ -151,6 +178,7 @@ void segment_name(struct segment *segment)
         return;
     process->own_number = side != NULL ? (int)side->process : (int)process->peer;
     process->parent = side != NULL ? (int)side->parent : 0;
+    note_own_number(process);
     process_set_name(process, side != NULL ? side->argv : name_by_number(process->peer));
 }
 

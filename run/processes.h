@@ -31,8 +31,8 @@ struct segment {
     int connection, side_memory, verdicts; /* descriptors; -1: there is none */
     int aside;                             /* likewise: all of its stream, in place of the connection */
     bool is_met;                           /* its side memory was asked for, and its process was found by that */
-    bool is_alone;                         /* it is to have a checker of its own, */
-    struct segment *next_alone;            /* as has this one, or null */
+    bool is_alone;                         /* it is to have a checker of its own */
+    struct segment *next_waiting;          /* the one after it that waits for a checker, or null */
     int side_error;                        /* by which the process could not make its side memory, or 0 */
     const struct side *side;               /* or null, as from when the outcome is settled */
     struct modules modules;                /* until it is done */
@@ -67,12 +67,14 @@ struct process {
     enum source source;
     pid_t peer;                 /* as the system numbers it for us; 0: not known */
     struct process *peer_next;  /* a later one whose number has the same bucket, or null */
+    struct process *own_next;   /* another one whose own number has the same bucket, or null */
     struct process *known_next; /* another one in its bucket (segments.c), or null */
     int own_number, parent;     /* as it knows them itself */
     int of_parent;              /* the number of whoever has forked it, as it knows that itself; */
     uint64_t of_parent_started; /* and when that was begun; 0: nobody that was recorded */
     uint64_t started;           /* when it was begun; 0: not known */
     const char *name;           /* the first word of its command line; null: not asked for yet */
+    const char *command;        /* its command line as a list of JSON, once the report was told of it */
     char *kept_prefix;          /* where its traces are kept, without what differs */
     bool is_summed_up;  /* all of its segments have come, and the outcome was said */
     bool is_among_more; /* it is counted, since lines of it could not be kept */
@@ -105,6 +107,9 @@ void process_set_peer(struct process *process, pid_t peer);
 /* The first to connect of those of this number, and the one after another of these; or null. */
 struct process *process_of_peer(pid_t peer);
 struct process *process_next_of_peer(const struct process *process);
+/* Likewise, of those that know themselves by this number, where the system has another one for us. */
+struct process *process_of_own_number(int number);
+struct process *process_next_of_own_number(const struct process *process);
 /* Takes settings from the side memory of a segment, if it has one; and name and numbers of its process, if that has
    none yet. */
 void segment_name(struct segment *segment);

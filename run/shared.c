@@ -32,7 +32,7 @@ struct batch {
 static int ends[2] = {-1, -1}; /* of the pipe by which streams are moved: no byte is read here */
 static struct batch *waiting;  /* or null */
 static double first_came, last_came;
-static struct segment *alone; /* the first that needs a checker of its own; the others by next_alone */
+static struct segment *alone; /* the first that needs a checker of its own; the others by next_waiting */
 static struct segment **alone_end = &alone;
 
 bool shared_begin(void)
@@ -44,9 +44,9 @@ void shared_add_alone(struct segment *segment)
 {
     segment->is_alone = true;
     segment->stage = STAGE_CONNECTED;
-    segment->next_alone = NULL;
+    segment->next_waiting = NULL;
     *alone_end = segment;
-    alone_end = &segment->next_alone;
+    alone_end = &segment->next_waiting;
 }
 
 struct segment *shared_next_alone(void)
@@ -54,7 +54,7 @@ struct segment *shared_next_alone(void)
     struct segment *next = alone;
     if (next == NULL)
         return NULL;
-    alone = next->next_alone;
+    alone = next->next_waiting;
     if (alone == NULL)
         alone_end = &alone;
     return next;

@@ -1,0 +1,24 @@
+/* Segments that wait for a checker: connections that have sent nothing yet, and what can be started, in the order in
+   which it came. A turn costs what happens in it, and not how many wait. */
+#ifndef ASANCOL_RUN_ARRIVALS_H
+#define ASANCOL_RUN_ARRIVALS_H
+
+#include <poll.h>
+#include <stdbool.h>
+
+#include "processes.h"
+
+/* Takes a descriptor. Before that, or if there is none, one connection at a time can wait. */
+void arrivals_begin(void);
+/* Adds a connection, which is ready once something has come, or its other end is closed. */
+void arrivals_add(struct segment *segment);
+/* Adds one that is ready. */
+void arrivals_add_ready(struct segment *segment);
+/* What is to be polled; and finds what is ready if the poll says that there is something. */
+struct pollfd arrivals_poll(void);
+void arrivals_find(void);
+/* Takes the first that is ready; or answers null. */
+struct segment *arrivals_next(void);
+bool arrivals_are_ready(void);
+
+#endif
