@@ -21,6 +21,7 @@
 #include "nested.h"
 #include "say.h"
 #include "segments.h"
+#include "texts.h"
 #include "unchecked.h"
 #include "verdict.h"
 
@@ -29,11 +30,18 @@ enum { MAX_RUN_ARGV = 40000, MAX_PROCESS_ARGV = 24000, MAX_ARGUMENTS = 1000, MAX
 /* What is printed if asancol-report cannot run. */
 enum { RAW_PROCESSES = 20, RAW_LINES = 20, RAW_BYTES = 8192 };
 
-struct message {
-    struct message *next;
+/* What is sent. Most messages only say what a process has come to, and most runs send none: the text of such a one is
+   made when it is sent, of what is known then. */
+struct parcel {
     char *text;
     size_t length;
     int descriptors[2 + SIDE_FILES], count;
+};
+
+struct message {
+    struct message *next;
+    struct process *process; /* of which it speaks, if it has no parcel yet */
+    struct parcel *parcel;   /* or null */
 };
 
 static struct {
@@ -60,10 +68,13 @@ static struct {
 
 static void drop(struct message *message)
 {
-    for (int i = 0; i < message->count; i++)
-        close(message->descriptors[i]);
-    report.held -= (size_t)message->count;
-    free(message->text);
+    struct parcel *parcel = message->parcel;
+    for (int i = 0; parcel != NULL && i < parcel->count; i++)
+        close(parcel->descriptors[i]);
+    report.held -= parcel != NULL ? (size_t)parcel->count : 0;
+    if (parcel != NULL)
+        free(parcel->text);
+    free(parcel);
     free(message);
 }
 
@@ -78,31 +89,47 @@ static void drop_all(void)
     report.last = &report.first;
 }
 
-/* Puts a message at the end of the queue: its text is what was written to the file. */
-static void enqueue(struct message *message, FILE *text)
+static void drop_first(void)
 {
-    if (fclose(text) != 0)
-        must(NULL);
+    struct message *first = report.first;
+    report.first = first->next;
+    if (report.first == NULL)
+        report.last = &report.first;
+    drop(first);
+}
+
+/* Puts a message at the end of the queue. */
+static void enqueue(struct process *process, struct parcel *parcel)
+{
+    struct message *message = must(malloc(sizeof *message));
+    *message = (struct message){NULL, process, parcel};
     *report.last = message;
     report.last = &message->next;
-    report.held += (size_t)message->count;
+    report.held += parcel != NULL ? (size_t)parcel->count : 0;
     if (report.is_broken)
         drop_all();
     else if (report.socket >= 0)
         report_send();
 }
 
-static FILE *new_message(struct message **message)
+static FILE *new_parcel(struct parcel **parcel)
 {
-    *message = must(calloc(1, sizeof **message));
-    return must(open_memstream(&(*message)->text, &(*message)->length));
+    *parcel = must(calloc(1, sizeof **parcel));
+    return must(open_memstream(&(*parcel)->text, &(*parcel)->length));
+}
+
+/* Its text is what was written to the file. */
+static void close_parcel(FILE *text)
+{
+    if (fclose(text) != 0)
+        must(NULL);
 }
 
 void report_begin(const struct options *options)
 {
     char host[256] = "", folder[PATH_MAX];
     struct timespec time;
-    struct message *message;
+    struct parcel *parcel;
     report.last = &report.first;
     report.options = options;
     report.argv = options->report;
@@ -110,7 +137,7 @@ void report_begin(const struct options *options)
         strings_add(&report.argv, "--quiet");
     gethostname(host, sizeof host - 1);
     clock_gettime(CLOCK_REALTIME, &time);
-    FILE *to = new_message(&message);
+    FILE *to = new_parcel(&parcel);
     fputs("{\"type\":\"run\",\"version\":1,\"command\":", to);
     json_list(to, options->command, MAX_RUN_ARGV);
     fputs(",\"host\":", to);
@@ -122,7 +149,8 @@ void report_begin(const struct options *options)
         if (*at > ' ' && *at < 0x7f && *at != '"' && *at != '\\')
             fputc(*at, to);
     fprintf(to, "\",\"time\":%jd}", (intmax_t)time.tv_sec);
-    enqueue(message, to);
+    close_parcel(to);
+    enqueue(NULL, parcel);
 }
 
 /* The side memory of its first segment that has one, or null. */
@@ -151,6 +179,21 @@ static void put_words(FILE *to, const struct process *process)
         list[count++] = at;
     list[count] = NULL;
     json_list(to, list, MAX_PROCESS_ARGV);
+}
+
+/* Keeps its words, as long as its side memory is there. */
+static void keep_words(struct process *process)
+{
+    char *text;
+    size_t length;
+    if (process->command != NULL && side_of(process) == NULL)
+        return;
+    FILE *to = must(open_memstream(&text, &length));
+    put_words(to, process);
+    if (fclose(to) != 0)
+        must(NULL);
+    process->command = text_kept(text);
+    free(text);
 }
 
 static void put_outcome(FILE *to, const struct outcome *outcome)
@@ -187,8 +230,7 @@ static void put_process(FILE *to, struct process *process, const struct segment 
     put_outcome(to, &joined);
     if (process->is_awaited)
         fputs(",\"awaited\":true", to);
-    fputs(",\"command\":", to);
-    put_words(to, process);
+    fprintf(to, ",\"command\":%s", process->command);
     if (joined.segments > 1)
         fprintf(to, ",\"segments\":%" PRIu32, joined.segments);
     if (segment != NULL && segments_are_several(process))
@@ -240,16 +282,16 @@ static void keep_raw(const struct segment *segment)
     raw.numbers[raw.count++] = process->own_number;
 }
 
-static void take_descriptors(struct message *message, struct segment *segment, const int *files, size_t count)
+static void take_descriptors(struct parcel *parcel, struct segment *segment, const int *files, size_t count)
 {
     lseek(segment->verdicts, 0, SEEK_SET);
-    message->descriptors[message->count++] = segment->verdicts;
+    parcel->descriptors[parcel->count++] = segment->verdicts;
     segment->verdicts = -1;
     if (segment->side_memory >= 0)
-        message->descriptors[message->count++] = segment->side_memory;
+        parcel->descriptors[parcel->count++] = segment->side_memory;
     segment->side_memory = -1;
     for (size_t i = 0; i < count; i++)
-        message->descriptors[message->count++] = files[i];
+        parcel->descriptors[parcel->count++] = files[i];
 }
 
 /* Files that the process has loaded since it began: before something removes them. */
@@ -272,25 +314,25 @@ static bool is_shown(const struct segment *segment)
 /* A message with what is to be seen of a segment. */
 static void show(struct segment *segment)
 {
-    struct message *message;
+    struct parcel *parcel;
     int files[SIDE_FILES];
-    FILE *to = new_message(&message);
     find_modules(segment);
     size_t count = modules_copy(&segment->modules, files);
+    keep_words(segment->process);
+    FILE *to = new_parcel(&parcel);
     put_process(to, segment->process, segment, count);
+    close_parcel(to);
     if (outcome_reports(&segment->outcome) > 0)
         keep_raw(segment);
-    take_descriptors(message, segment, files, count);
+    take_descriptors(parcel, segment, files, count);
     report_start();
-    enqueue(message, to);
+    enqueue(NULL, parcel);
 }
 
 void report_again(struct process *process)
 {
-    struct message *message;
-    FILE *to = new_message(&message);
-    put_process(to, process, NULL, 0);
-    enqueue(message, to);
+    keep_words(process);
+    enqueue(process, NULL);
 }
 
 void report_segment(struct segment *segment)
@@ -322,23 +364,34 @@ static void give_up(void)
     drop_all();
 }
 
-static ssize_t send_one(const struct message *message)
+/* What it sends, which is made if it is not there yet. */
+static struct parcel *parcel_of(struct message *message)
+{
+    if (message->parcel != NULL)
+        return message->parcel;
+    FILE *to = new_parcel(&message->parcel);
+    put_process(to, message->process, NULL, 0);
+    close_parcel(to);
+    return message->parcel;
+}
+
+static ssize_t send_one(const struct parcel *parcel)
 {
     union {
         char room[CMSG_SPACE((2 + SIDE_FILES) * sizeof(int))];
         struct cmsghdr align;
     } control = {0};
-    struct iovec piece = {message->text, message->length};
+    struct iovec piece = {parcel->text, parcel->length};
     struct msghdr header = {.msg_iov = &piece, .msg_iovlen = 1};
-    if (message->count > 0) {
-        size_t size = (size_t)message->count * sizeof(int);
+    if (parcel->count > 0) {
+        size_t size = (size_t)parcel->count * sizeof(int);
         header.msg_control = &control;
         header.msg_controllen = CMSG_SPACE(size);
         struct cmsghdr *first = CMSG_FIRSTHDR(&header);
         first->cmsg_level = SOL_SOCKET;
         first->cmsg_type = SCM_RIGHTS;
         first->cmsg_len = CMSG_LEN(size);
-        memcpy(CMSG_DATA(first), message->descriptors, size);
+        memcpy(CMSG_DATA(first), parcel->descriptors, size);
     }
     return sendmsg(report.socket, &header, MSG_NOSIGNAL | MSG_DONTWAIT);
 }
@@ -346,18 +399,14 @@ static ssize_t send_one(const struct message *message)
 void report_send(void)
 {
     while (report.socket >= 0 && report.first != NULL) {
-        if (send_one(report.first) < 0) {
+        if (send_one(parcel_of(report.first)) < 0) {
             /* Too many descriptors under way: the next turn tries again. */
             if (errno == EAGAIN || errno == EINTR || errno == ETOOMANYREFS || errno == ENOBUFS || errno == ENOMEM)
                 return;
             give_up();
             return;
         }
-        struct message *sent = report.first;
-        report.first = sent->next;
-        if (report.first == NULL)
-            report.last = &report.first;
-        drop(sent);
+        drop_first();
     }
     if (report.socket >= 0 && report.is_over)
         shutdown(report.socket, SHUT_WR);
@@ -469,8 +518,8 @@ static void put_lines(FILE *to, const char *name, const struct strings *lines)
 
 void report_finish(const struct run_end *end)
 {
-    struct message *message;
-    FILE *to = new_message(&message);
+    struct parcel *parcel;
+    FILE *to = new_parcel(&parcel);
     fprintf(to,
             "{\"type\":\"end\",\"seconds\":%.3f,\"status\":%d,\"signal\":%d,\"nothing\":%s,\"missing\":%" PRIu64
             ",\"running\":%s,\"timed_out\":%s,\"lost\":%" PRIu64,
@@ -482,8 +531,9 @@ void report_finish(const struct run_end *end)
     put_lines(to, "troubles", &end->troubles);
     put_lines(to, "notes", &end->notes);
     fputc('}', to);
+    close_parcel(to);
     report.is_over = true;
-    enqueue(message, to);
+    enqueue(NULL, parcel);
     if (report.socket >= 0)
         report_send();
 }
@@ -505,8 +555,8 @@ void report_leave(const char *path)
 {
     FILE *to = fopen(path, "wxe");
     bool is_left = to != NULL;
-    for (const struct message *message = report.first; is_left && message != NULL; message = message->next)
-        is_left = fprintf(to, "%s\n", message->text) > 0;
+    for (; is_left && report.first != NULL; drop_first())
+        is_left = fprintf(to, "%s\n", parcel_of(report.first)->text) > 0;
     if (to != NULL && fclose(to) != 0)
         is_left = false;
     if (!is_left)
