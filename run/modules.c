@@ -72,6 +72,8 @@ void modules_take(struct modules *modules, const int *descriptors, size_t count)
         struct module *module = take(descriptors[i]);
         if (module == NULL)
             continue;
+        if (modules->list == NULL)
+            modules->list = must(malloc(SIDE_FILES * sizeof(struct module *)));
         module->processes++;
         modules->list[modules->count++] = module;
     }
@@ -136,7 +138,8 @@ void modules_let_go(struct modules *modules)
     for (size_t i = 0; i < modules->count; i++)
         if (--modules->list[i]->processes == 0)
             drop(modules->list[i]);
-    modules->count = 0;
+    free(modules->list);
+    *modules = (struct modules){0};
 }
 
 size_t modules_held(void)

@@ -10,7 +10,7 @@
 
 /* Of one process. */
 struct modules {
-    struct module *list[SIDE_FILES];
+    struct module **list; /* null, or with room for SIDE_FILES */
     size_t count;
 };
 

@@ -61,7 +61,7 @@ size_t process_count(void)
 
 size_t process_number(struct process *process)
 {
-    static size_t numbered;
+    static uint32_t numbered;
     if (process->number == 0)
         process->number = ++numbered;
     return process->number - 1;

@@ -21,28 +21,28 @@ enum stage {
 /* How it was cut short. */
 enum cut { CUT_NONE, CUT_BY_WAIT, CUT_BY_TIMEOUT };
 
-/* A connection or a file, and what has become of it. */
+/* A connection or a file, and what has become of it. It stays up to the end of the run, so it is packed. */
 struct segment {
-    struct process *process; /* whose it is */
-    struct segment *next;    /* the one after it, of those of its process that have come; or null */
-    uint64_t number;         /* how many segments of its process came before it */
+    struct process *process;      /* whose it is */
+    struct segment *next;         /* the one after it, of those of its process that have come; or null */
+    struct segment *next_waiting; /* the one after it that waits for a checker, or null */
+    uint64_t number;              /* how many segments of its process came before it */
     enum stage stage;
     enum cut cut;
     int connection, side_memory, verdicts; /* descriptors; -1: there is none */
     int aside;                             /* likewise: all of its stream, in place of the connection */
-    bool is_met;                           /* its side memory was asked for, and its process was found by that */
-    bool is_alone;                         /* it is to have a checker of its own */
-    struct segment *next_waiting;          /* the one after it that waits for a checker, or null */
-    int side_error;                        /* by which the process could not make its side memory, or 0 */
     const struct side *side;               /* or null, as from when the outcome is settled */
     struct modules modules;                /* until it is done */
     pid_t checker, tee;                    /* 0: it does not run */
     int checker_status;                    /* as of waitpid */
+    int side_error;                        /* by which the process could not make its side memory, or 0 */
     const char *trace;                     /* the file in which it is, if it did not reach the hub; or null */
-    bool is_unwritten;                     /* that file goes on with a zero after the last record */
     char *kept;                            /* the file in which its trace is kept, or null */
     struct children *children;             /* that its process has forked meanwhile, or null */
-    bool becomes; /* its process became a program that is to be here, and no mark says so */
+    bool is_met;       /* its side memory was asked for, and its process was found by that */
+    bool is_alone;     /* it is to have a checker of its own */
+    bool is_unwritten; /* its file goes on with a zero after the last record */
+    bool becomes;      /* its process became a program that is to be here, and no mark says so */
     struct outcome outcome;
 };
 
@@ -63,16 +63,16 @@ enum source {
 
 struct process {
     struct segment *first; /* of those that have come, in their order; null: it has joined another process */
-    size_t number;         /* process_number has it */
+    uint32_t number;       /* process_number has it */
     enum source source;
     pid_t peer;                 /* as the system numbers it for us; 0: not known */
-    struct process *peer_next;  /* a later one whose number has the same bucket, or null */
-    struct process *own_next;   /* another one whose own number has the same bucket, or null */
-    struct process *known_next; /* another one in its bucket (segments.c), or null */
     int own_number, parent;     /* as it knows them itself */
     int of_parent;              /* the number of whoever has forked it, as it knows that itself; */
     uint64_t of_parent_started; /* and when that was begun; 0: nobody that was recorded */
     uint64_t started;           /* when it was begun; 0: not known */
+    struct process *peer_next;  /* a later one whose number has the same bucket, or null */
+    struct process *own_next;   /* another one whose own number has the same bucket, or null */
+    struct process *known_next; /* another one in its bucket (segments.c), or null */
     const char *name;           /* the first word of its command line; null: not asked for yet */
     const char *command;        /* its command line as a list of JSON, once the report was told of it */
     char *kept_prefix;          /* where its traces are kept, without what differs */
