@@ -5,7 +5,7 @@ usage: run/tests/bench_scale.py ASANCOL [WORD..]
 
 Times are of processors, user and system, the least of some rounds: so they hold on a machine that has other work, too.
 A line has a figure, its unit and what it is of. It takes two or three minutes. With words only these parts are
-measured: merges, results, traces, processes, kept, events, connections, systemd.
+measured: merges, results, traces, processes, kept, crowds, events, connections, systemd.
 """
 
 import functools
@@ -22,6 +22,7 @@ from typing import Callable, Dict, List, Optional, Sequence, Tuple
 sys.path.insert(0, f"{os.path.dirname(os.path.realpath(__file__))}/../..")  # where `testing` is
 
 import bench_report
+import crowds
 import service
 from support import REPORT, RUN, TESTS, Suite, leave_out, wait_until, write_text
 
@@ -29,6 +30,7 @@ MILLION = 1000000
 ROUNDS = 5
 CONNECTIONS = 100
 MANY = 2000
+CROWDS = (1000, 10000, 100000)
 HEADER = service.HEADER
 
 
@@ -101,6 +103,22 @@ class Bench:
             self.run(RUN, "-q", "--", "sh", "-c", line)
             sizes.append(int(service.text_of(path).split()[1]))
         show((sizes[1] - sizes[0]) * 1024 / MANY, "bytes", "that asancol-run holds of a process that has ended")
+
+    def crowds(self) -> None:
+        """What asancol-run itself takes and holds for processes that cost nearly nothing."""
+        crowd, found = f"{self.folder}/crowd", []
+        crowds.build(crowd)
+        for count in CROWDS:
+            path = f"{self.folder}/of_crowd"
+            wait = "while [ $(ls /proc/$PPID/fd | wc -l) -gt 30 ]; do sleep 0.2; done"
+            line = f"{crowd} {count}; {wait}; cat /proc/$PPID/stat > {path}"
+            self.run(RUN, "-q", "--", "sh", "-c", line)
+            words = service.text_of(path).rsplit(")", 1)[1].split()
+            ticks, pages = int(words[11]) + int(words[12]), int(words[21])
+            found.append((count, ticks / os.sysconf("SC_CLK_TCK"), pages * os.sysconf("SC_PAGE_SIZE")))
+            show(1000 * found[-1][1] / count, "ms", f"of asancol-run for one of {count:,} processes")
+        (few, _, before), (many, _, after) = found[-2:]
+        show((after - before) / (many - few), "bytes", "that asancol-run holds of one more")
 
     # Events.
 
@@ -194,7 +212,7 @@ def rows(bench: Bench) -> Sequence[Tuple[str, Callable[[], None]]]:
     # Merges come first: what this holds counts as memory of what it starts.
     found: List[Tuple[str, Callable[[], None]]] = [
         ("merges", bench.merges), ("results", bench.results), ("traces", bench.traces),
-        ("processes", bench.processes), ("kept", bench.kept), ("events", bench.events),
+        ("processes", bench.processes), ("kept", bench.kept), ("crowds", bench.crowds), ("events", bench.events),
         ("connections", bench.connections)]
     if shutil.which("systemd-nspawn") and bench.suite.run_argv([*service.CONTAINER, "/usr/bin/true"]).status == 0:
         found.append(("systemd", bench.connections_of_systemd))
