@@ -233,8 +233,8 @@ static void read_signals(void)
     reap();
 }
 
-/* One that has sent its first bytes waits for others, or its checker is started; unless it has only asked for something.
-   The command itself does not wait: none comes after it. False: there are no resources now. */
+/* One that has sent its first bytes waits for others, or its checker is started; unless it has only asked for
+   something. The command itself does not wait: none comes after it. False: there are no resources now. */
 static bool start_arrived(struct segment *segment)
 {
     if (segment->aside < 0 && checker_answers(segment)) {

@@ -22,7 +22,9 @@ struct run_end {
     struct strings notes;    /* lines for the reader, which cost no status */
 };
 
-enum report_answer { ANSWER_CLEAN, ANSWER_REPORTS, ANSWER_ARGUMENTS, ANSWER_INCOMPLETE, ANSWER_NOT_WRITTEN, ANSWER_NONE };
+enum report_answer {
+    ANSWER_CLEAN, ANSWER_REPORTS, ANSWER_ARGUMENTS, ANSWER_INCOMPLETE, ANSWER_NOT_WRITTEN, ANSWER_NONE
+};
 
 /* The first message: what is run. */
 void report_begin(const struct options *options);

@@ -307,7 +307,8 @@ static bool has_all(const struct segment *segment, unsigned fate)
     /* Who goes on with the next segment looks again for what was noted in this one. */
     if (ending != ENDING_SEGMENT && is_bad_missing(segment))
         return false;
-    if (segment->outcome.is_closed_off && ending != ENDING_NONE && ending != ENDING_LOST) /* what is good need not be there */
+    /* What is good need not be there. */
+    if (segment->outcome.is_closed_off && ending != ENDING_NONE && ending != ENDING_LOST)
         return (fate & CUT_OFF) && needed_of(segment) <= segment->outcome.events + 1;
     if (fate != NO_CLOSE)
         return fate == CLOSED;
@@ -360,7 +361,8 @@ static bool has_stopped(struct segment *segment)
         return false;
     struct side_progress progress = side_progress(segment->side);
     if (segment->outcome.ending != ENDING_NONE && segment->outcome.ending != ENDING_SIGNAL)
-        return progress.starts != 0 && (segment->process->source == SOURCE_FILES || is_over(segment)) && !is_death_by_others(segment);
+        return progress.starts != 0 && (segment->process->source == SOURCE_FILES || is_over(segment))
+               && !is_death_by_others(segment);
     if (progress.calls == 0 && progress.starts == 0)
         return false;
     if (segment->outcome.ending == ENDING_SIGNAL)

@@ -16,7 +16,8 @@ GROWTH = 1.08
 # So many are beside the one that goes wrong.
 BESIDE = 150
 
-GARBAGE = "import os, socket; s = socket.socket(socket.AF_UNIX); s.connect(os.environ['ASANCOL_HUB']); s.send(b'junk'*9)"
+GARBAGE = ("import os, socket; s = socket.socket(socket.AF_UNIX); s.connect(os.environ['ASANCOL_HUB']); "
+           "s.send(b'junk' * 9)")
 
 
 def build(program: str) -> None:
