@@ -164,13 +164,12 @@ static struct strings troubles_of(const struct run_end *end)
 static bool is_cut_short(const struct sum *sum, const struct run_end *end)
 {
     size_t rest = end->nothing ? sum->incomplete - sum->unchecked : sum->incomplete;
-    return rest > 0 || end->missing > 0 || end->is_running || end->has_timed_out
-           || end->lost > 0;
+    return rest > 0 || end->missing > 0 || end->is_running || end->has_timed_out || end->lost > 0;
 }
 
 /* Ends the feed, and answers what asancol-report says; or says it here if it did not run. */
 static enum report_answer conclude(const struct options *options, const struct sum *sum, const struct run_end *end,
-                            bool has_nested)
+                                   bool has_nested)
 {
     if (sum->reports > 0 || has_nested || options->has_output || options->has_rules)
         report_start();

@@ -20,8 +20,8 @@ static void say_complete(const struct process *process, const struct outcome *jo
     if (joined->segments > 1)
         snprintf(segments, sizeof segments, " in %" PRIu32 " segments", joined->segments);
     say("asancol: process %d %s: complete%s%s, %" PRIu64 " event%s%s, %" PRIu64 " report%s", process->own_number,
-        process->name, end[0] != 0 ? ": " : "", end, joined->events, plural(joined->events, "s"), segments,
-        reports, plural(reports, "s"));
+        process->name, end[0] != 0 ? ": " : "", end, joined->events, plural(joined->events, "s"), segments, reports,
+        plural(reports, "s"));
 }
 
 void lines_say_complete(void)

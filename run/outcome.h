@@ -18,17 +18,17 @@ enum answer {
 struct outcome {
     const char *fate, *why; /* of its end line; why it was incomplete, or how it ended */
     enum answer answer;
-    uint32_t ending;          /* enum ending */
-    unsigned signal;          /* that has ended it, as the recorder saw; or 0 */
-    uint32_t segments;        /* how many have come, of all together */
+    uint32_t ending;   /* enum ending */
+    unsigned signal;   /* that has ended it, as the recorder saw; or 0 */
+    uint32_t segments; /* how many have come, of all together */
     uint64_t events, reports, left_out, stated, left_good;
-    uint32_t findings;        /* places of which its recorder says that something is wrong there, */
-    uint32_t leaks;           /* and those that leak, if leaks are summed up: then they are no findings */
-    uint64_t skipped;         /* enum side_skipped: of what was wanted */
-    uint64_t used_again;      /* how many bytes of blocks it had handed out when freed memory came again; or 0 */
-    uint64_t quarantine;      /* how many bytes of freed blocks it holds */
+    uint32_t findings;           /* places of which its recorder says that something is wrong there, */
+    uint32_t leaks;              /* and those that leak, if leaks are summed up: then they are no findings */
+    uint64_t skipped;            /* enum side_skipped: of what was wanted */
+    uint64_t used_again;         /* how many bytes of blocks it had handed out when freed memory came again; or 0 */
+    uint64_t quarantine;         /* how many bytes of freed blocks it holds */
     bool is_one, halts, is_lean; /* as it was set (struct side_settings) */
-    bool leaks_missed;    /* they were to be looked for, and could not be */
+    bool leaks_missed;           /* they were to be looked for, and could not be */
     bool has_checks;
     bool is_closed_off;   /* it has closed its descriptors, that of its stream too */
     bool is_cut_at_limit; /* it is incomplete since it went on after the limit of events */

@@ -39,10 +39,10 @@ struct segment {
     const char *trace;                     /* the file in which it is, if it did not reach the hub; or null */
     char *kept;                            /* the file in which its trace is kept, or null */
     struct children *children;             /* that its process has forked meanwhile, or null */
-    bool is_met;       /* its side memory was asked for, and its process was found by that */
-    bool is_alone;     /* it is to have a checker of its own */
-    bool is_unwritten; /* its file goes on with a zero after the last record */
-    bool becomes;      /* its process became a program that is to be here, and no mark says so */
+    bool is_met;                           /* its side memory was asked for, and its process was found by that */
+    bool is_alone;                         /* it is to have a checker of its own */
+    bool is_unwritten;                     /* its file goes on with a zero after the last record */
+    bool becomes;                          /* its process became a program that is to be here, and no mark says so */
     struct outcome outcome;
 };
 
@@ -76,9 +76,9 @@ struct process {
     const char *name;           /* the first word of its command line; null: not asked for yet */
     const char *command;        /* its command line as a list of JSON, once the report was told of it */
     char *kept_prefix;          /* where its traces are kept, without what differs */
-    bool is_summed_up;  /* all of its segments have come, and the outcome was said */
-    bool is_among_more; /* it is counted, since lines of it could not be kept */
-    bool is_awaited;    /* it has crashed, whoever has started it has waited for it, and the command has ended well */
+    bool is_summed_up;          /* all of its segments have come, and the outcome was said */
+    bool is_among_more;         /* it is counted, since lines of it could not be kept */
+    bool is_awaited; /* it has crashed, whoever has started it has waited for it, and the command has ended well */
 };
 
 /* A process with a segment that has no descriptor yet. Each stays where it is. */

@@ -524,9 +524,8 @@ void report_finish(const struct run_end *end)
             "{\"type\":\"end\",\"seconds\":%.3f,\"status\":%d,\"signal\":%d,\"nothing\":%s,\"missing\":%" PRIu64
             ",\"running\":%s,\"timed_out\":%s,\"lost\":%" PRIu64,
             end->seconds, WIFEXITED(end->status) ? WEXITSTATUS(end->status) : 0,
-            WIFSIGNALED(end->status) ? WTERMSIG(end->status) : 0, end->nothing ? "true" : "false",
-            end->missing, end->is_running ? "true" : "false", end->has_timed_out ? "true" : "false",
-            end->lost);
+            WIFSIGNALED(end->status) ? WTERMSIG(end->status) : 0, end->nothing ? "true" : "false", end->missing,
+            end->is_running ? "true" : "false", end->has_timed_out ? "true" : "false", end->lost);
     unchecked_put(to);
     put_lines(to, "troubles", &end->troubles);
     put_lines(to, "notes", &end->notes);

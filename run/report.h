@@ -23,7 +23,12 @@ struct run_end {
 };
 
 enum report_answer {
-    ANSWER_CLEAN, ANSWER_REPORTS, ANSWER_ARGUMENTS, ANSWER_INCOMPLETE, ANSWER_NOT_WRITTEN, ANSWER_NONE
+    ANSWER_CLEAN,
+    ANSWER_REPORTS,
+    ANSWER_ARGUMENTS,
+    ANSWER_INCOMPLETE,
+    ANSWER_NOT_WRITTEN,
+    ANSWER_NONE
 };
 
 /* The first message: what is run. */

@@ -256,9 +256,13 @@ static void add(struct outcome *joined, const struct outcome *outcome)
 static struct outcome add_up(const struct segment *front)
 {
     const struct outcome *first = &front->outcome;
-    struct outcome joined = {
-        .fate = "", .why = "", .quarantine = first->quarantine, .is_one = first->is_one, .halts = first->halts,
-        .is_lean = first->is_lean, .ending = first->ending};
+    struct outcome joined = {.fate = "",
+                             .why = "",
+                             .quarantine = first->quarantine,
+                             .is_one = first->is_one,
+                             .halts = first->halts,
+                             .is_lean = first->is_lean,
+                             .ending = first->ending};
     for (const struct segment *at = front; at != NULL; at = at->next) {
         add(&joined, &at->outcome);
         joined.fate = at->outcome.fate;
