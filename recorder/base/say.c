@@ -12,6 +12,7 @@
 #include "base/digits.h"
 #include "base/disturbance.h"
 #include "base/errors.h"
+#include "base/platform.h"
 #include "base/system.h"
 
 static struct {
@@ -20,8 +21,8 @@ static struct {
     bool has_error;
     bool has_failed; /* the log could not be written, and that was said */
     const char *log; /* a pattern, or null */
-    char name[PATH_MAX]; /* that it gives this process */
 } say;
+static AS_TABLE char log_name[PATH_MAX]; /* that the pattern gives this process */
 
 /* Less than what a pipe takes at once; and a thread's stack may be small. */
 struct line {
@@ -59,8 +60,8 @@ void say_to(const char *log)
 
 void say_again(void)
 {
-    if (say.log != NULL && !name_of_pattern(say.log, say.name, sizeof say.name))
-        say.name[0] = 0;
+    if (say.log != NULL && !name_of_pattern(say.log, log_name, sizeof log_name))
+        log_name[0] = 0;
 }
 
 bool name_of_pattern(const char *pattern, char *name, size_t room)
@@ -104,7 +105,7 @@ static void write_line(int descriptor, const struct line *line)
 static int write_log(const struct line *line)
 {
     /* A pipe without a reader is not waited for. */
-    int log = system_open(say.name, O_WRONLY | O_CREAT | O_APPEND | O_CLOEXEC | O_NOCTTY | O_NONBLOCK, 0666);
+    int log = system_open(log_name, O_WRONLY | O_CREAT | O_APPEND | O_CLOEXEC | O_NOCTTY | O_NONBLOCK, 0666);
     if (log < 0)
         return -log;
     write_line(log, line);

@@ -19,6 +19,7 @@
 
 #include "calls/library.h"
 #include "calls/objects.h"
+#include "base/platform.h"
 #include "base/system.h"
 #include "common/text.h"
 #include "heap/heap.h"
@@ -49,7 +50,7 @@ static const void *at_distance(const int32_t *from)
 
 /* The stubs by the hashes of their names: a number and 1, or 0. It is filled at the start. */
 enum { STUB_PLACES = 2048 };
-static uint16_t stub_numbers[STUB_PLACES];
+static AS_TABLE uint16_t stub_numbers[STUB_PLACES];
 
 static void enter_stubs(void)
 {
@@ -327,7 +328,7 @@ struct known {
     const _Atomic uintptr_t *slot; /* or null */
     uintptr_t stub;
 };
-static struct known known[MOST_KNOWN];
+static AS_TABLE struct known known[MOST_KNOWN];
 static size_t known_count;
 
 static struct known *find_known(uintptr_t start)

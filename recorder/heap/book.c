@@ -19,6 +19,7 @@
 
 #include <string.h>
 
+#include "base/platform.h"
 #include "heap/blocks.h"
 #include "heap/retiring.h"
 #include "shadow/shadow.h"
@@ -37,11 +38,11 @@ struct entry {
     bool is_poisoned; /* poison or an unpoison was stated in its span since */
 };
 
-static struct {
-    struct entry entries[ENTRIES];
+static AS_TABLE struct {
     uint32_t count;
     uint64_t held_bytes;     /* of spans, in the checker */
     _Atomic bool is_spoiled; /* something was stated past the book, by a handler that had interrupted the allocator */
+    struct entry entries[ENTRIES];
 } book;
 
 void book_forget(void)

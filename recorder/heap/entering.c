@@ -4,6 +4,7 @@
 #include <linux/membarrier.h>
 #include <sys/mman.h>
 
+#include "base/platform.h"
 #include "base/system.h"
 #include "calls/library.h"
 #include "heap/freeing.h"
@@ -15,7 +16,7 @@
 #include "stream/state.h"
 
 /* What is held before the settings are read is held, too. */
-struct heap heap;
+AS_TABLE struct heap heap;
 _Atomic uint64_t heap_bound = QUARANTINE_BOUND;
 
 _Thread_local struct visit this_visit;

@@ -6,6 +6,7 @@
 #include <string.h>
 #include <sys/mman.h>
 
+#include "base/platform.h"
 #include "base/say.h"
 #include "base/system.h"
 #include "heap/heap.h"
@@ -17,7 +18,7 @@ struct region {
 };
 
 enum { MAX_REGIONS = 1 << 12 };
-static struct region regions[MAX_REGIONS];
+static AS_TABLE struct region regions[MAX_REGIONS];
 static size_t region_count;
 
 /* Returns the entry of a region, or null. */

@@ -12,6 +12,7 @@
 #include "process/asking.h"
 #include "process/beginning.h"
 #include "base/digits.h"
+#include "base/platform.h"
 #include "common/hub_name.h"
 #include "common/inherited.h"
 #include "base/system.h"
@@ -149,7 +150,7 @@ void orphan_say(const char *why)
 
 #else
 
-static struct {
+static AS_TABLE struct {
     char text[SETTINGS_MOST];
     const char *in_the_way;
 } given;

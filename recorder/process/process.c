@@ -6,6 +6,7 @@
 #include <unistd.h>
 
 #include "base/disturbance.h"
+#include "base/platform.h"
 #include "base/say.h"
 #include "base/self.h"
 #include "base/system.h"
@@ -35,8 +36,8 @@ static struct {
     int error_before_fork;
     struct settings settings;
     const char *pattern; /* of the trace's name, or null */
-    char name[PATH_MAX];
 } process;
+static AS_TABLE char trace_name[PATH_MAX]; /* that the pattern gives this process */
 
 /* What is preloaded waits for the first module of asancol-cc, or the first bad access or free (halt.c). Whoever ends
    that sets it to false. Until then blocks have redzones and call sites, and nothing else of the recorder is there. */
@@ -93,8 +94,8 @@ const char *recorder_hub(void)
 static bool open_stream(void)
 {
     if (process.pattern != NULL) {
-        process.settings.trace = process.name;
-        if (!name_of_pattern(process.pattern, process.name, sizeof process.name)) {
+        process.settings.trace = trace_name;
+        if (!name_of_pattern(process.pattern, trace_name, sizeof trace_name)) {
             recorder_say("nothing is recorded: ", process.pattern, "the name is too long");
             unseen_note(process.settings.hub, "the name of its trace is too long");
             return false;

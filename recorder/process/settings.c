@@ -6,6 +6,7 @@
 
 #include "process/beginning.h"
 #include "base/digits.h"
+#include "base/platform.h"
 #include "common/distance.h"
 #include "common/format.h"
 #include "base/say.h"
@@ -208,7 +209,7 @@ static const char *kept_value(const char *name, struct entry *entry)
 /* Where the stream goes: the trace comes first, and then the hub. */
 static void read_outputs(struct settings *settings)
 {
-    static struct entry trace, beside, hub, socket;
+    static AS_TABLE struct entry trace, beside, hub, socket;
     settings->trace = name_from_root("ASANCOL_TRACE", &trace);
     const char *named = kept_value("ASANCOL_HUB", &hub);
     settings->hub = settings->trace == NULL ? named : NULL;
@@ -220,7 +221,7 @@ static void read_outputs(struct settings *settings)
 
 void settings_read(struct settings *settings)
 {
-    static struct entry log;
+    static AS_TABLE struct entry log;
     say_to(name_from_root("ASANCOL_LOG", &log));
     if (!beginning.is_set_user)
         look_for_unknown();

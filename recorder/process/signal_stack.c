@@ -7,6 +7,7 @@
 #include <stdint.h>
 #include <sys/mman.h>
 
+#include "base/platform.h"
 #include "base/system.h"
 #include "shadow/shadow.h"
 
@@ -58,7 +59,7 @@ void signal_stack_ends(void)
 
 void signal_stack_of_first(void)
 {
-    static _Alignas(16) char room[HANDLERS_STACK];
+    static AS_TABLE _Alignas(16) char room[HANDLERS_STACK];
     give_stack(room);
     is_wanted = true;
 }

@@ -171,7 +171,7 @@ static void come_back(uintptr_t frame, uintptr_t from, uintptr_t target)
    good, and its memory is an array again. By its stack pointer; whoever finds a place busy does without it. */
 
 enum { KEPT = 512, KEPT_BYTES = 1000, KEPT_BUSY = 1 };
-static struct {
+static AS_TABLE struct {
     _Atomic uintptr_t frame; /* 0: it is free */
     uint32_t size;
     unsigned char shades[KEPT_BYTES];
@@ -211,7 +211,7 @@ static bool put_back(uintptr_t frame)
 /* The newest stacks that contexts were made on: a switch may not say where a stack lies. Whoever changes one makes it
    empty first. */
 enum { MADE = 256 };
-static struct {
+static AS_TABLE struct {
     _Atomic uintptr_t low, top;
 } made[MADE];
 
@@ -343,7 +343,7 @@ struct start {
 };
 
 enum { STARTS = 256 };
-static struct start starts[STARTS];
+static AS_TABLE struct start starts[STARTS];
 static pthread_key_t at_end;
 static _Atomic bool has_key;
 

@@ -7,6 +7,7 @@
 #include <sys/mman.h>
 
 #include "base/memory.h"
+#include "base/platform.h"
 #include "base/system.h"
 
 enum { ENTRIES = 100 };
@@ -21,7 +22,7 @@ struct entry {
     _Atomic uint64_t start, end; /* of the memory that its globals have */
 };
 
-static struct page {
+static AS_TABLE struct page {
     struct page *_Atomic next;
     struct entry entries[ENTRIES];
 } first;

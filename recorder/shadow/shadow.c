@@ -5,6 +5,7 @@
 #include <string.h>
 #include <sys/mman.h>
 
+#include "base/platform.h"
 #include "base/system.h"
 
 #ifndef IN_SHARED_OBJECT
@@ -13,7 +14,7 @@
 enum { FILE_COUNT = ((uint64_t)1 << ARENA_SHIFT) / SHADOW_OF_FILE, BITS = 32 };
 
 /* A bit for each part: a file is its shadow. Written with the allocator's lock. */
-static _Atomic uint32_t of_file[FILE_COUNT / BITS];
+static AS_TABLE _Atomic uint32_t of_file[FILE_COUNT / BITS];
 
 bool shadow_is_of_file(uint64_t address)
 {

@@ -7,6 +7,7 @@
 #include <sys/mman.h>
 
 #include "base/memory.h"
+#include "base/platform.h"
 #include "base/system.h"
 #include "shadow/shadow.h"
 #include "stacks/own_stack.h"
@@ -35,7 +36,7 @@ struct fake_stack {
 /* Numbers of slots count from 1, and 0 is none. Free ones are a list: of its head the upper half counts its changes. */
 static _Atomic uint32_t slots_made;
 static _Atomic uint64_t free_slots;
-static _Atomic uint32_t next_free[SLOTS + 1];
+static AS_TABLE _Atomic uint32_t next_free[SLOTS + 1];
 
 static _Atomic bool is_on;
 static _Thread_local struct fake_stack *volatile own;

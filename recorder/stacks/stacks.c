@@ -44,12 +44,12 @@ static struct {
 
 /* Relaxed: the place in `known` is released once the words of a stack are there. Who has its number from elsewhere may
    see zeros, or a number that is just given. */
-static _Alignas(PAGE) _Atomic uint64_t words[STACK_WORDS];
+static AS_TABLE _Alignas(PAGE) _Atomic uint64_t words[STACK_WORDS];
 /* The last stack of this thread that has all frames of its own, or 0. Relaxed: no other thread looks at it, and a
    signal handler finds one whose words are there. */
 static _Thread_local _Atomic uint32_t last_whole;
 /* The upper bits of a hash, and the number of the first word. */
-static _Atomic uint64_t known[STACKS];
+static AS_TABLE _Atomic uint64_t known[STACKS];
 
 void stacks_begin(void)
 {

@@ -1,12 +1,13 @@
 #define _GNU_SOURCE
 #include "stacks/thread_notes.h"
 
+#include "base/platform.h"
 #include "base/system.h"
 
 _Thread_local struct own_notes own_notes = {.number = THREAD_UNKNOWN};
 
 /* By their numbers. What is not used takes no memory. */
-static struct {
+static AS_TABLE struct {
     _Atomic uint64_t created, name[NAME_WORDS];
     _Atomic uint32_t system_number;
 } notes[THREAD_UNKNOWN];

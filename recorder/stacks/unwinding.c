@@ -24,7 +24,7 @@ union rule_word {
     uint64_t word;
 };
 
-static _Alignas(64) struct known_rule rules[PLACES];
+static AS_TABLE _Alignas(64) struct known_rule rules[PLACES];
 
 /* The generation is in the upper bits of the key. */
 void unwinding_modules_changed(void)

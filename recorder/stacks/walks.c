@@ -1,5 +1,6 @@
 #include "stacks/walks.h"
 
+#include "base/platform.h"
 #include "stacks/own_stack.h"
 
 _Thread_local struct own_walks own_walks;
@@ -7,7 +8,7 @@ _Atomic uint64_t rules_generation = UINT64_C(1) << GENERATION_SHIFT;
 
 /* More threads at a time know none. What is not used takes no memory. */
 enum { PLACES = 256, AFTER_WALKS = 64 };
-static _Alignas(PAGE) struct walks places[PLACES];
+static AS_TABLE _Alignas(PAGE) struct walks places[PLACES];
 static _Atomic bool is_taken[PLACES];
 
 /* The address of who is called is there for any walk, and tells nothing. */

@@ -12,7 +12,7 @@
 #define KNOWN ((uint64_t)1 << 17)
 _Static_assert(FAULT_NUMBER == KNOWN - 1, "a number is a place in the table");
 _Static_assert(SIDE_FAULTS < KNOWN, "there is always a free place, and a number has room");
-static _Alignas(PAGE) _Atomic uint64_t known[KNOWN];
+static AS_TABLE _Alignas(PAGE) _Atomic uint64_t known[KNOWN];
 
 void fault_list_forget(void)
 {

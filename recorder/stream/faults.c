@@ -5,6 +5,7 @@
 #include <string.h>
 
 #include "base/memory.h"
+#include "base/platform.h"
 #include "heap/arena.h"
 #include "shadow/globals.h"
 #include "shadow/shadow.h"
@@ -19,7 +20,7 @@
 /* The faults at variables that were found last, by all that decides which they are, in the same form: a loop need not
    read a description each time. */
 enum { RECENT = 1 << 10 };
-static _Atomic uint64_t recent[RECENT];
+static AS_TABLE _Atomic uint64_t recent[RECENT];
 
 void faults_are_cut(void)
 {

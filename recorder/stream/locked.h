@@ -8,8 +8,6 @@
 #include "stream/output.h"
 
 extern struct locked {
-    struct output trace;
-    struct output side; /* a file, or memory */
     bool has_side;
     unsigned window;         /* in which both lie */
     uint64_t segment;        /* how many came before this one */
@@ -20,6 +18,8 @@ extern struct locked {
     bool is_overfull;        /* for which there was no room */
     bool goes_on;            /* after what is written at an exit */
     bool said_unseen;        /* that it gets no close, since nothing was seen */
+    struct output trace;
+    struct output side; /* a file, or memory */
 } locked;
 
 /* How long the stream is up to an offset. */

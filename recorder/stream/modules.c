@@ -12,13 +12,14 @@
 
 #include "base/descriptors.h"
 #include "base/memory.h"
+#include "base/platform.h"
 #include "base/system.h"
 #include "process/link_note.h"
 #include "stream/state.h"
 
 enum { MAPS_ROOM = SIDE_UNCHECKED - SIDE_MAPS };
 
-static struct {
+static AS_TABLE struct {
     uint64_t generation;      /* of modules, as the loader counted them; 0: nobody has asked it */
     uint64_t unchecked_state; /* what the list of what was not checked was made of, beside the map */
     size_t open, length;      /* of the map up to what was closed, and of all of it; 0: there is no note */
@@ -37,7 +38,7 @@ const char *modules_map(void)
 
 enum { HEADS = 16, MODULES = 256 };
 
-static struct module modules[MODULES]; /* of the map that is being noted, by their starts */
+static AS_TABLE struct module modules[MODULES]; /* of the map that is being noted, by their starts */
 static unsigned modules_count;
 
 static void take_head(struct module *module, const struct map_head *head)
@@ -55,7 +56,7 @@ static void take_head(struct module *module, const struct map_head *head)
 /* Takes modules that were found, and of which only the starts are known. */
 static void take_heads(struct module *first, unsigned count)
 {
-    static struct map_head heads[HEADS];
+    static AS_TABLE struct map_head heads[HEADS];
     uint64_t starts[HEADS];
     unsigned char *bytes[HEADS];
     for (unsigned i = 0; i < count; i++) {
@@ -211,7 +212,7 @@ static bool find_before(struct side_build *build, const struct side_build *befor
 
 static void note_builds(void)
 {
-    static struct side_build before[SIDE_BUILD_COUNT];
+    static AS_TABLE struct side_build before[SIDE_BUILD_COUNT];
     const char *at = noted.map;
     struct map_line line;
     size_t count_before = noted.builds_count, count = 0;
@@ -230,7 +231,7 @@ static void note_builds(void)
 /* The note. Answers whether it is another one. */
 static bool note(void)
 {
-    static char now[MAPS_ROOM];
+    static AS_TABLE char now[MAPS_ROOM];
     size_t length = read_map(now, sizeof now - 1);
     uint64_t state = above.unchecked_state();
     if (length == 0) /* as after a change of root: what is there stays */

@@ -5,6 +5,7 @@
 
 #include "base/digits.h"
 #include "base/memory.h"
+#include "base/platform.h"
 #include "heap/arena.h"
 #include "shadow/globals.h"
 
@@ -69,7 +70,7 @@ static uint32_t take_line(char *name)
 /* The descriptions of frames that were put among the stacks last: the upper bits of a hash, and the numbers of their
    first words in the lower ones. */
 enum { RECENT = 1 << 10 };
-static _Atomic uint64_t descriptions[RECENT];
+static AS_TABLE _Atomic uint64_t descriptions[RECENT];
 
 /* A description that is gone over: first for its hash and its length, then to copy it. */
 struct letters {

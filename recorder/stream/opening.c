@@ -4,6 +4,7 @@
 #include <string.h>
 #include <sys/mman.h>
 
+#include "base/platform.h"
 #include "base/say.h"
 #include "base/system.h"
 #include "process/earlier.h"
@@ -19,7 +20,7 @@
 
 static const char *open_side_file(struct output *side, const char *trace, unsigned number)
 {
-    static char path[PATH_MAX + 8]; /* the lock is held; and a stack may be small */
+    static AS_TABLE char path[PATH_MAX + 8]; /* the lock is held; and a stack may be small */
     size_t length = strlen(trace);
     memcpy(path, trace, length);
     strcpy(path + length, ".where");
@@ -94,7 +95,7 @@ void stream_forget(void)
    names in the usual course: only the first says so, and only of a file that was there before. */
 static void say_other_name(const char *asked)
 {
-    static char name[PATH_MAX], why[PATH_MAX + 32]; /* the lock is held; and a stack may be small */
+    static AS_TABLE char name[PATH_MAX], why[PATH_MAX + 32]; /* the lock is held; and a stack may be small */
     static bool was_asked; /* by this process, or by the one that has forked it */
     bool is_first = !was_asked;
     was_asked = true;

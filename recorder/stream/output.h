@@ -19,8 +19,8 @@ struct output {
     bool is_lost;    /* the mapped file was cut by somebody else */
     uint64_t room;
     unsigned char *bytes; /* plain memory before and after */
-    char path[PATH_MAX];
     unsigned number; /* that its name has got, since the name was taken; or 0 */
+    char path[PATH_MAX];
 };
 
 /* Where an output lies: memory that was reserved for it (windows.h). */

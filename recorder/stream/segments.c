@@ -4,12 +4,13 @@
 #include <string.h>
 
 #include "process/settings.h"
+#include "base/platform.h"
 #include "base/system.h"
 
-static char first_path[PATH_MAX];
+static AS_TABLE char first_path[PATH_MAX];
 
 /* The newest files, by the numbers of their segments: what they are, and the number in a name that was taken. */
-static struct file {
+static AS_TABLE struct file {
     dev_t device;
     ino_t node;
     unsigned number;
@@ -39,7 +40,7 @@ bool segments_name(uint64_t segment, char *name)
 /* Removes the file of a segment, with what stands beside it, unless another file has its name by now. */
 static void throw_away(uint64_t segment)
 {
-    static char name[PATH_MAX], path[PATH_MAX + sizeof ".where"];
+    static AS_TABLE char name[PATH_MAX], path[PATH_MAX + sizeof ".where"];
     const struct file *file = file_of(segment);
     struct stat seen;
     strcpy(path, first_path);

@@ -10,6 +10,7 @@
 
 #include "base/descriptors.h"
 #include "base/memory.h"
+#include "base/platform.h"
 #include "base/say.h"
 #include "base/self.h"
 #include "base/system.h"
@@ -67,7 +68,7 @@ static size_t read_file(const char *path, char *to, size_t room)
    write a title of its own there. */
 static void read_argv(struct side *side)
 {
-    static char seen[SIDE_ARGV]; /* the lock is held */
+    static AS_TABLE char seen[SIDE_ARGV]; /* the lock is held */
     static size_t length;
     uintptr_t words = (uintptr_t)beginning.words;
     bool is_there = words != 0 && words < beginning.end && length <= beginning.end - words;
@@ -276,7 +277,7 @@ static bool is_one_file(int descriptor, int other)
 
 unsigned side_open_files(int files[SIDE_FILES])
 {
-    static char path[PATH_MAX]; /* the lock is held; and a stack may be small */
+    static AS_TABLE char path[PATH_MAX]; /* the lock is held; and a stack may be small */
     const struct side *side = side_now();
     struct map_line line;
     unsigned count = 0;

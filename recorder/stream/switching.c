@@ -6,6 +6,7 @@
 
 #include "base/disturbance.h"
 #include "base/errors.h"
+#include "base/platform.h"
 #include "base/say.h"
 #include "base/self.h"
 #include "stream/ending.h"
@@ -55,7 +56,7 @@ struct outputs {
 /* The files of the next segment are there before the one before is closed: so who finds that closed finds the next. */
 static const char *open_next(struct outputs *next, unsigned window)
 {
-    static char name[PATH_MAX];
+    static AS_TABLE char name[PATH_MAX];
     next->has_side = false;
     if (!segments_name(locked.segment + 1, name))
         return error_text(ENAMETOOLONG);
@@ -78,7 +79,7 @@ static bool finish_segment(uint64_t cursor)
 /* Ends the segment whose cursor this was, and opens the next. False: the recording has ended. */
 static bool leave_file(uint64_t cursor, unsigned window)
 {
-    static struct outputs next; /* the lock is held */
+    static AS_TABLE struct outputs next; /* the lock is held */
     const char *why = open_next(&next, window);
     if (why != NULL) {
         losing_give_up_at(cursor, why);
