@@ -16,8 +16,8 @@
 /* For what several members of an archive use: a program may have the name itself. */
 #define OWN_NAME(name) __asm__("asancol_" #name)
 
-/* Of variables that have a page or more, of which little is touched, or seldom. They lie behind all others (zeros.ld), so
-   that those share few pages, which each start and each forked child touches. */
+/* Of variables that have a page or more, of which little is touched, or seldom. They lie behind all others (zeros.ld),
+   so that those share few pages: each start and each forked child touches these. */
 #define AS_TABLE __attribute__((section(".bss.table")))
 
 /* How many bytes a page has. */

@@ -80,14 +80,15 @@ static bool note_from(uint32_t from, size_t count)
                  {other_notes(from), count * SLOTS * sizeof(struct block)}};
     int used = from < FIRST_BIG ? 3 : 2; /* a run has no second slot */
     for (int i = 0; i < used; i++) {
-        if (arena_give_memory(parts[i].start, parts[i].bytes)) {
-            system_madvise(parts[i].start, parts[i].bytes, MADV_DONTDUMP); /* a core has the blocks alone */
+        if (arena_give_memory(parts[i].start, parts[i].bytes))
             continue;
-        }
         while (i-- > 0)
             system_munmap(parts[i].start, parts[i].bytes);
         return false;
     }
+    /* A core has the blocks alone. Between the lowest part and the highest are only other notes, or nothing. */
+    unsigned char *lowest = (unsigned char *)block_at(from, 0), *end = (unsigned char *)(arena.units + from + count);
+    system_madvise(lowest, (size_t)(end - lowest), MADV_DONTDUMP);
     return true;
 }
 

@@ -47,6 +47,8 @@ static AS_TABLE struct {
 
 void book_forget(void)
 {
+    if (book.count == 0 && book.held_bytes == 0 && !atomic_load(&book.is_spoiled))
+        return; /* a forked child need not have the page */
     book.count = 0;
     book.held_bytes = 0;
     atomic_store(&book.is_spoiled, false);

@@ -37,6 +37,7 @@ void beginning_note(char **argv, char **variables)
     beginning.system_code = number_behind(variables, AT_SYSINFO_EHDR, 0);
     uintptr_t last = number_behind(variables, AT_EXECFN, 0); /* it lies above all other texts */
     beginning.words = argv[0];
+    beginning.are_all_words = number_behind(variables, AT_BASE, 0) != 0;
     beginning.end = last > (uintptr_t)argv ? last / PAGE * PAGE + PAGE : 0;
     beginning.variables = variables;
 #else

@@ -13,7 +13,8 @@ extern struct beginning {
     char **argv, **variables;
     bool is_set_user;     /* the environment is not to be believed */
     uint64_t system_code; /* where the code begins that the system maps into the process */
-    const char *words;    /* the arguments as the system has put them, one behind the other */
+    const char *words;    /* the arguments as the system has put them, one behind the other, */
+    bool are_all_words;   /* and none before these, as where the dynamic linker was run by its name */
     uintptr_t end;        /* of what the system has put on the first stack, from argv on; 0: nobody knows */
 } beginning OWN_NAME(beginning);
 

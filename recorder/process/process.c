@@ -149,11 +149,10 @@ static void be_idle(void)
 
 void recorder_start(void)
 {
-    struct disturbance before;
     if (!state_start())
         return;
-    undisturbed_begin(&before);
     self_note_process();
+    uint64_t generation = library_generation();
     if (settings_hub() == NULL)
         orphan_ask();
     settings_read(&process.settings);
@@ -172,11 +171,11 @@ void recorder_start(void)
         state_forget();
         be_idle();
     }
+    side_know_generation(generation);
     heap_unlock();
     if (!atomic_load(&stream_page.stream.is_idle))
         fake_stack_start(process.settings.use_after_return);
     unseen_expect_no_more(recorder_hub());
-    undisturbed_end(&before);
 }
 
 bool recorder_begins_late(void)
@@ -281,7 +280,7 @@ void recorder_exit(bool is_last)
         return;
     }
     heap_ends_here();
-    stream_close(is_last);
+    stream_close(is_last, library_generation()); /* the loader's lock is taken by who has none of ours */
     if (is_last)
         stream_say_left_out();
 }

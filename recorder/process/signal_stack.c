@@ -20,8 +20,8 @@ enum { HANDLERS_STACK = 1 << 17 };
 static void give_stack(void *start)
 {
     stack_t stack = {.ss_sp = start, .ss_size = HANDLERS_STACK}, seen;
-    if (system_sigaltstack(NULL, &seen) == 0 && (seen.ss_flags & SS_DISABLE))
-        system_sigaltstack(&stack, NULL);
+    if (system_sigaltstack(&stack, &seen) == 0 && !(seen.ss_flags & SS_DISABLE))
+        system_sigaltstack(&seen, NULL);
 }
 
 /* Those of other threads than the first. One that has ended leaves its own to the next. */

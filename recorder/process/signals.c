@@ -277,8 +277,8 @@ static bool is_function(uintptr_t handler)
     return handler != (uintptr_t)SIG_DFL && handler != (uintptr_t)SIG_IGN;
 }
 
-/* Handles a signal whose action is the default. At once: it is taken back where the program has another one. No signal
-   may come in between, so this is for a process with one thread, in which all are blocked; and the system drops what
+/* Handles a signal whose action is the default. At once: it is taken back where the program has another one. The signal
+   may not come in between, so this is for a process with one thread, in which it is blocked; and the system drops what
    waits once it is to be ignored again. */
 static void handle_default(int number, uint64_t mask, bool at_once)
 {
@@ -296,16 +296,13 @@ static void handle_default(int number, uint64_t mask, bool at_once)
 
 void signals_handle(void)
 {
-    uint64_t set = 0, all = ~(uint64_t)0, before;
-    bool at_once = library_is_alone() && system_sigprocmask(SIG_SETMASK, &all, &before) == 0;
+    uint64_t set = 0;
     signal_stack_of_first();
     for (unsigned i = 0; i < FAULTS; i++)
         set |= signal_bit(faults[i]);
     for (int number = 1; number <= LAST_SIGNAL; number++)
         if (ends_process(number))
-            handle_default(number, ~set, at_once);
-    if (at_once)
-        system_sigprocmask(SIG_SETMASK, &before, NULL);
+            handle_default(number, ~set, library_is_alone() && number != SIGBUS);
     undisturbed_by_faults(set);
     has_handlers = true;
 }

@@ -8,7 +8,7 @@ struct sigaction;
 
 /* Ends the process as the C library's abort does. */
 _Noreturn void signals_abort(void);
-/* Handles the signals that end the process, where the program has not. */
+/* Handles the signals that end the process, where the program has not. The caller is undisturbed. */
 void signals_handle(void);
 /* This thread calls abort from here: the signal comes inside the C library, where nothing leads to its caller. */
 void signals_note_abort(uintptr_t caller);

@@ -4,6 +4,7 @@
 
 #include <stddef.h>
 
+#include "base/disturbance.h"
 #include "base/self.h"
 #include "calls/library.h"
 #include "heap/book.h"
@@ -95,6 +96,7 @@ static void find_argv(void)
 void asancol_start(void)
 {
     static bool has_begun;
+    struct disturbance before;
     if (has_begun)
         return;
     has_begun = true;
@@ -107,10 +109,12 @@ void asancol_start(void)
     thread_is_first();
     stacks_begin();
     unchecked_start();
+    undisturbed_begin(&before);
     recorder_start();
     recorder_watch_forks();
     if (stream_state() != STATE_OFF)
         signals_handle();
+    undisturbed_end(&before);
 }
 
 /* The C library may not be ready; and in the allocator the start would record a block that its malloc then records

@@ -344,6 +344,7 @@ struct start {
 
 enum { STARTS = 256 };
 static AS_TABLE struct start starts[STARTS];
+static _Atomic int starts_used; /* as many at once, at most */
 static pthread_key_t at_end;
 static _Atomic bool has_key;
 
@@ -399,16 +400,20 @@ static int run_of_c11(void *of)
 
 void threads_visit_waiting(void (*visit)(uintptr_t argument))
 {
-    for (int i = 0; i < STARTS; i++)
+    for (int i = 0; i < atomic_load(&starts_used); i++)
         if (atomic_load(&starts[i].is_taken))
             visit((uintptr_t)starts[i].argument);
 }
 
 static struct start *take_start(void)
 {
-    for (int i = 0; i < STARTS; i++)
+    for (int i = 0; i < STARTS; i++) {
+        int used = atomic_load(&starts_used);
+        while (used <= i && !atomic_compare_exchange_weak(&starts_used, &used, i + 1))
+            ;
         if (!atomic_exchange(&starts[i].is_taken, true))
             return &starts[i];
+    }
     return NULL;
 }
 

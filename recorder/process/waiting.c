@@ -3,6 +3,7 @@
 #include <stdatomic.h>
 #include <stdbool.h>
 
+#include "base/disturbance.h"
 #include "base/self.h"
 #include "calls/plain.h"
 #include "heap/heap.h"
@@ -18,7 +19,10 @@ void recorder_wait_no_more(void)
 #ifndef IS_STATIC
     plain_begin();
 #endif
+    struct disturbance before;
+    undisturbed_begin(&before);
     signals_handle();
+    undisturbed_end(&before);
 }
 
 /* What a program says at its start, one that has this preloaded says once it has a module. */

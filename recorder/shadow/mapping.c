@@ -43,8 +43,8 @@ static _Noreturn void fail(const char *why)
 
 static const char taken[] = "something else has its addresses";
 
-/* Why it can't be mapped; null: it is. */
-static const char *map_at(uint64_t address, int advice)
+/* Why it can't be mapped; null: it is, by this call or another object's. */
+static const char *map_at(uint64_t address, bool *is_new)
 {
     int flags = MAP_PRIVATE | MAP_ANONYMOUS | MAP_NORESERVE | MAP_FIXED_NOREPLACE;
     void *at = (void *)address;
@@ -57,11 +57,34 @@ static const char *map_at(uint64_t address, int advice)
         return taken;
     /* Where another object of the process came first, the whole range is mapped. If anything else has a part of it, the
        rest is a hole, of which the system says ENOMEM here. */
-    if (system_madvise(at, SHADOW_BYTES, MADV_DONTDUMP) == -ENOMEM)
+    *is_new = start > 0;
+    if (!*is_new && system_madvise(at, SHADOW_BYTES, MADV_DONTDUMP) == -ENOMEM)
         return taken;
-    system_madvise(at, SHADOW_BYTES, MADV_NOHUGEPAGE);
-    if (advice != 0)
-        system_madvise(at, SHADOW_BYTES, advice);
+    return NULL;
+}
+
+/* What holds for both maps. If both are new nothing lies between them yet, and the system passes over that. */
+static void advise(bool are_new, int advice)
+{
+    if (are_new) {
+        system_madvise((void *)SHADOW_START, STATED_START + SHADOW_BYTES - SHADOW_START, advice);
+        return;
+    }
+    system_madvise((void *)SHADOW_START, SHADOW_BYTES, advice);
+    system_madvise((void *)STATED_START, SHADOW_BYTES, advice);
+}
+
+static const char *map_both(void)
+{
+    bool is_new, is_stated_new;
+    const char *why = map_at(SHADOW_START, &is_new);
+    if (why == NULL)
+        why = map_at(STATED_START, &is_stated_new);
+    if (why != NULL)
+        return why;
+    advise(is_new && is_stated_new, MADV_DONTDUMP);
+    advise(is_new && is_stated_new, MADV_NOHUGEPAGE);
+    system_madvise((void *)STATED_START, SHADOW_BYTES, MADV_WIPEONFORK); /* a child's stream states nothing yet */
     return NULL;
 }
 
@@ -184,10 +207,7 @@ static const char *map_all(void)
 #ifndef IN_SHARED_OBJECT
     library_begin();
 #endif
-    const char *why = map_at(SHADOW_START, 0);
-    /* A child's stream states nothing yet. */
-    if (why == NULL)
-        why = map_at(STATED_START, MADV_WIPEONFORK);
+    const char *why = map_both();
     if (why == NULL)
         why = map_hook_page();
     if (why != NULL)

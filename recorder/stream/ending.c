@@ -188,14 +188,16 @@ void ending_close_again(void)
     close_at(CURSOR_ON | locked.checked_events << 32 | locked.checked, false);
 }
 
-void stream_close(bool is_last)
+void stream_close(bool is_last, uint64_t generation)
 {
     stream_lock();
+    locked.generation = generation;
     if (stream_state() == STATE_AT_LIMIT)
         side_note_ending(ENDING_EXIT, 0, locked.checked_events);
     bool has_more_to_come = !is_last && !is_file() && !is_hub();
     uint64_t cursor = is_on() && !has_more_to_come ? state_leave(STATE_SWITCHING) : 0;
     if (cursor & CURSOR_ON)
         close_at(cursor, is_last);
+    locked.generation = 0;
     stream_unlock();
 }

@@ -14,6 +14,7 @@ extern struct locked {
     uint64_t start;          /* the offset at which the stream begins */
     uint64_t checked;        /* up to here the records were seen to be whole, */
     uint64_t checked_events; /* so many */
+    uint64_t generation;     /* of modules, as the loader has counted them just before an exit; or 0 */
     bool takes_snapshot;     /* what a segment begins with, just now, */
     bool is_overfull;        /* for which there was no room */
     bool goes_on;            /* after what is written at an exit */

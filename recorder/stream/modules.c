@@ -249,10 +249,11 @@ static bool note(void)
     return true;
 }
 
-static void copy(struct side *side)
+/* What is new has zeros, which are not even looked at: that would take memory for them. */
+static void copy(struct side *side, bool is_new)
 {
     char *bytes = (char *)side, *unchecked = bytes + SIDE_UNCHECKED;
-    size_t length = strlen(noted.unchecked), before = strlen(unchecked);
+    size_t length = strlen(noted.unchecked), before = is_new ? 0 : strlen(unchecked);
     struct side_build *builds = (struct side_build *)(bytes + SIDE_BUILDS);
     memcpy(bytes + SIDE_MAPS, noted.map, noted.length + 1);
     memcpy(builds, noted.builds, noted.builds_count * sizeof *builds);
@@ -266,19 +267,25 @@ static void copy(struct side *side)
 void modules_show(struct side *side)
 {
     if (noted.length != 0 || note())
-        copy(side);
+        copy(side, true);
 }
 
 void modules_look(struct side *side)
 {
     if (note())
-        copy(side);
+        copy(side, false);
 }
 
 void modules_look_at_generation(struct side *side, uint64_t generation)
 {
-    if (generation == noted.generation)
+    if (generation == noted.generation && above.unchecked_state() == noted.unchecked_state)
         return;
     modules_look(side);
     noted.generation = generation;
+}
+
+void modules_are_of_generation(uint64_t generation)
+{
+    if (noted.length != 0)
+        noted.generation = generation;
 }

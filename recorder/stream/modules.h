@@ -26,6 +26,8 @@ void modules_show(struct side *side);
 void modules_look(struct side *side);
 /* Likewise, unless this is the generation of modules that the note is of, as the loader counts them. */
 void modules_look_at_generation(struct side *side, uint64_t generation);
+/* The note was made after the loader had counted this generation, and before another one could come. */
+void modules_are_of_generation(uint64_t generation);
 /* The map that was noted: lines, and a zero. */
 const char *modules_map(void);
 

@@ -24,10 +24,7 @@ static const char *open_side_file(struct output *side, const char *trace, unsign
     size_t length = strlen(trace);
     memcpy(path, trace, length);
     strcpy(path + length, ".where");
-    struct window window;
-    if (!windows_of_side(number, &window))
-        return "there is no room for it";
-    const char *why = output_open_file(side, path, NAME_TAKEN_OVER, window, SIDE_INDEX);
+    const char *why = output_open_file(side, path, NAME_TAKEN_OVER, windows_of_side(number), SIDE_INDEX);
     if (why == NULL && !side->is_mapped)
         why = "it can't be mapped";
     return why;
@@ -59,10 +56,8 @@ const char *opening_hub(const struct settings *settings)
     if (why != NULL)
         return why;
     memcpy(locked.trace.bytes, HEADER, HEADER_LENGTH);
-    bool has_room = windows_of_side(locked.window, &window);
-    const char *why_not = "there is no room for it";
-    if (has_room)
-        why_not = output_open_memory(&locked.side, window, &locked.trace, settings->patience_ms);
+    window = windows_of_side(locked.window);
+    const char *why_not = output_open_memory(&locked.side, window, &locked.trace, settings->patience_ms);
     if (why_not != NULL) {
         recorder_say("nothing is kept beside the trace: ", settings->hub, why_not);
         return output_send(&locked.trace, HEADER_LENGTH, true, settings->patience_ms);

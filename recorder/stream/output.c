@@ -103,7 +103,7 @@ static const char *take_pieces(struct output *output, int descriptor, struct win
         return reason(result);
     output->device = seen.st_dev;
     output->node = seen.st_ino;
-    if ((result = empty_memory(window)) < 0)
+    if (!window.is_new && (result = empty_memory(window)) < 0)
         return reason(result);
     output->is_plain = true;
     output->bytes = window.bytes;
@@ -185,7 +185,8 @@ const char *output_connect(struct output *output, const char *path, bool has_abs
     output->is_socket = true;
     if (strlen(path) >= sizeof address.sun_path)
         return error_text(ENAMETOOLONG);
-    strcpy(output->path, path);
+    if (strcmp(output->path, path) != 0) /* a forked child has the name of its parent's */
+        strcpy(output->path, path);
     int descriptor = descriptor_of_socket(SOCK_STREAM | SOCK_CLOEXEC | SOCK_NONBLOCK);
     if (descriptor < 0)
         return reason(descriptor);
@@ -423,13 +424,13 @@ bool output_lose(struct output *output, const void *address)
     const unsigned char *at = address;
     if (!output->is_mapped || at < output->bytes || at >= output->bytes + output->room)
         return false;
-    output->is_lost = put_memory((struct window){output->bytes, output->room}) > 0;
+    output->is_lost = put_memory((struct window){output->bytes, output->room, false}) > 0;
     return output->is_lost;
 }
 
 void output_leave(struct output *output)
 {
-    struct window window = {output->bytes, output->room};
+    struct window window = {output->bytes, output->room, false};
     if (output->bytes != NULL && output->is_plain)
         empty_memory(window);
     else if (output->bytes != NULL)

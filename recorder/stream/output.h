@@ -27,6 +27,7 @@ struct output {
 struct window {
     unsigned char *bytes;
     uint64_t room;
+    bool is_new; /* nothing has lain there yet */
 };
 
 /* The name with a number, if that is not 0: run.trace, run.1.trace, run.2.trace. False: it is too long. */

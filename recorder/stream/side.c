@@ -63,6 +63,22 @@ static size_t read_file(const char *path, char *to, size_t room)
     return length;
 }
 
+/* Those arguments that there is room for, if they lie one behind the other where the system has put them. 0: they do
+   not, since the program has other ones by now. */
+static size_t copy_words(char *to, size_t room)
+{
+    uintptr_t start = beginning.are_all_words ? (uintptr_t)beginning.words : 0, next = start;
+    for (char **word = beginning.argv; next != 0 && next < start + room && *word != NULL; word++) {
+        if ((uintptr_t)*word != next || next >= beginning.end)
+            return 0;
+        next += strlen(*word) + 1;
+    }
+    size_t length = next - start < room ? next - start : room;
+    if (length != 0)
+        memcpy(to, (const char *)start, length);
+    return length;
+}
+
 /* The arguments of the command line. Each has its zero, also one that was cut, and there is one more. What was read is
    kept, also in a child, and read again only if it does not stand any more where the system has put it: a process may
    write a title of its own there. */
@@ -72,6 +88,8 @@ static void read_argv(struct side *side)
     static size_t length;
     uintptr_t words = (uintptr_t)beginning.words;
     bool is_there = words != 0 && words < beginning.end && length <= beginning.end - words;
+    if (length == 0)
+        length = copy_words(seen, SIDE_ARGV - 2);
     if (length == 0 || !is_there || memcmp(beginning.words, seen, length) != 0)
         length = read_file("/proc/self/cmdline", seen, SIDE_ARGV - 2);
     if (length != 0)
@@ -215,6 +233,23 @@ void side_look_at_generation(uint64_t generation)
         modules_look_at_generation(side, generation);
 }
 
+void side_know_generation(uint64_t generation)
+{
+    if (side_is_there())
+        modules_are_of_generation(generation);
+}
+
+/* Where nothing has a call site or a stack, only what the loader has brought is of interest. */
+void side_end_modules(uint64_t generation)
+{
+    struct side *side = side_now();
+    bool has_addresses = side != NULL && (word_at(&side->fault_count) != 0 || word_at(&side->stack_words) != 0);
+    if (generation == 0 || has_addresses)
+        side_write_modules();
+    else
+        side_look_at_generation(generation);
+}
+
 void stream_write_modules(void)
 {
     stream_lock();
@@ -244,10 +279,12 @@ bool side_back(const struct side_part *part, bool has_place)
     return is_backed;
 }
 
-/* Whether a file lies where the system has its libraries, which nobody removes. */
-static bool is_of_system(const char *path)
+/* Whether the file of a line lies where the system has its libraries, which nobody removes. */
+static bool is_of_system(const struct map_line *line)
 {
-    return strncmp(path, "/usr/lib", strlen("/usr/lib")) == 0 || strncmp(path, "/lib", strlen("/lib")) == 0;
+    const char *path = memchr(line->text, '/', (size_t)(line->next - line->text));
+    return path != NULL
+           && (strncmp(path, "/usr/lib", strlen("/usr/lib")) == 0 || strncmp(path, "/lib", strlen("/lib")) == 0);
 }
 
 /* The path of the file of a line. False: it has none, or it is too long. */
@@ -287,8 +324,8 @@ unsigned side_open_files(int files[SIDE_FILES])
     if (program >= 0)
         files[count++] = program;
     for (const char *at = modules_map(); count < SIDE_FILES && maps_take_line(at, &line); at = line.next) {
-        if (!maps_is_module(&line) || (program >= 0 && is_of_program(&line)) || !take_path(path, sizeof path, &line)
-            || is_of_system(path))
+        if (!maps_is_module(&line) || (program >= 0 && is_of_program(&line)) || is_of_system(&line)
+            || !take_path(path, sizeof path, &line))
             continue;
         int file = system_open(path, O_RDONLY | O_CLOEXEC | O_NONBLOCK | O_NOCTTY, 0);
         if (file >= 0 && program >= 0 && is_one_file(file, program))

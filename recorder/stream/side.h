@@ -48,6 +48,11 @@ uint64_t side_length(void);
 void side_write_modules(void);
 /* Likewise, unless the loader has counted the same generation of them when they were noted. */
 void side_look_at_generation(uint64_t generation);
+/* The note that was made was of this generation. */
+void side_know_generation(uint64_t generation);
+/* At an end: with those that came by other ways than the loader, if anything there has addresses of code, or if nobody
+   has asked the loader, which is 0; else by its generation. */
+void side_end_modules(uint64_t generation);
 /* Likewise, after a library was opened. The lock is taken. */
 void stream_write_modules(void);
 /* A part of what stands beside the stream in a window, and where it is noted that it has memory. */

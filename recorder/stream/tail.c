@@ -45,7 +45,7 @@ void tail_leave(void)
 void tail_trim(uint64_t end, enum ending ending)
 {
     if (locked.has_side)
-        side_write_modules(); /* with those that came by other ways than dlopen */
+        side_end_modules(locked.generation);
     uint64_t side_end = side_length();
     /* No thread that is late may store past the end of a file. */
     if (ending == ENDING_SEGMENT && is_file())

@@ -9,33 +9,31 @@
 
 static unsigned char *streams, *sides;
 
-static void reserve(unsigned char **range, unsigned shift)
-{
-    if (*range != NULL)
-        return;
-    long start = system_mmap(NULL, (size_t)WINDOWS << shift, PROT_READ | PROT_WRITE,
-                             MAP_PRIVATE | MAP_ANONYMOUS | MAP_NORESERVE, -1, 0);
-    *range = start < 0 ? NULL : (unsigned char *)start;
-    if (*range != NULL)
-        system_madvise(*range, (size_t)WINDOWS << shift, MADV_DONTDUMP); /* no debugger wants 5 GB of ours in a core */
-}
-
 unsigned char *windows_start(void)
 {
-    reserve(&streams, WINDOW_SHIFT);
+    size_t of_streams = (size_t)WINDOWS << WINDOW_SHIFT, all = of_streams + ((size_t)WINDOWS << SIDE_WINDOW_SHIFT);
+    if (streams != NULL)
+        return streams;
+    long start = system_mmap(NULL, all, PROT_READ | PROT_WRITE, MAP_PRIVATE | MAP_ANONYMOUS | MAP_NORESERVE, -1, 0);
+    if (start < 0)
+        return NULL;
+    system_madvise((void *)start, all, MADV_DONTDUMP); /* no debugger wants 5 GB of ours in a core */
+    streams = (unsigned char *)start;
+    sides = streams + of_streams;
     return streams;
 }
 
 struct window windows_of_stream(unsigned number)
 {
-    return (struct window){streams + ((size_t)number << WINDOW_SHIFT), STREAM_ROOM};
+    static unsigned used; /* one bit for each */
+    bool is_new = (used >> number & 1) == 0;
+    used |= 1U << number;
+    return (struct window){streams + ((size_t)number << WINDOW_SHIFT), STREAM_ROOM, is_new};
 }
 
-bool windows_of_side(unsigned number, struct window *window)
+struct window windows_of_side(unsigned number)
 {
-    reserve(&sides, SIDE_WINDOW_SHIFT);
-    *window = (struct window){sides + ((size_t)number << SIDE_WINDOW_SHIFT), SIDE_ROOM};
-    return sides != NULL;
+    return (struct window){sides + ((size_t)number << SIDE_WINDOW_SHIFT), SIDE_ROOM, false};
 }
 
 static bool is_in(const unsigned char *range, unsigned shift, const void *address)

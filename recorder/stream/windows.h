@@ -20,10 +20,10 @@ _Static_assert(SIDE_ROOM <= (uint64_t)1 << SIDE_WINDOW_SHIFT, "so has what stand
 
 /* Where the range of streams starts, once there was a stream. Null: there is no room for it. */
 unsigned char *windows_start(void);
-/* The window of a stream. */
+/* The window of a stream that is about to be opened. */
 struct window windows_of_stream(unsigned number);
-/* And of what stands beside it. False: there is no room. */
-bool windows_of_side(unsigned number, struct window *window);
+/* And of what stands beside it. */
+struct window windows_of_side(unsigned number);
 
 /* Puts a page of plain memory at an address in a window. False: it is in none. */
 bool windows_mend(const void *address);

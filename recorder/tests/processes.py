@@ -36,14 +36,14 @@ class Most(NamedTuple):
     exec: int
 
 
-# By how it is recorded. Of each start that is recorded 55 are for the handlers of signals, one by one.
+# By how it is recorded. Of each start that is recorded 54 are for the handlers of signals, one by one.
 MOST: Dict[str, Most] = {
-    "not": Most(50, 60, 15, 1, 10),
-    "trace": Most(120, 130, 25, 1, 25),
-    "trace with faults": Most(155, 160, 45, 1, 40),
-    "trace with faults and leaks": Most(175, 180, 59, 1, 40),
-    "hub": Most(135, 135, 45, 1, 45),
-    "hub and leaks": Most(150, 155, 59, 1, 45),
+    "not": Most(50, 58, 12, 1, 8),
+    "trace": Most(119, 127, 25, 1, 23),
+    "trace with faults": Most(144, 147, 39, 1, 40),
+    "trace with faults and leaks": Most(163, 167, 57, 1, 40),
+    "hub": Most(115, 115, 37, 1, 40),
+    "hub and leaks": Most(133, 135, 55, 1, 40),
 }
 
 

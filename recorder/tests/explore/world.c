@@ -190,7 +190,7 @@ void side_note_late_signal(int number) { (void)number; }
 void side_note_left_out(void) { world.has_left_out = true; }
 void side_note_needed(uint64_t event) { (void)event; }
 void side_note_closed_off(void) {}
-void side_write_modules(void) {}
+void side_end_modules(uint64_t generation) { (void)generation; }
 _Atomic uint64_t *side_begin_calls(bool for_start) { return for_start ? NULL : NULL; }
 void side_end_calls(_Atomic uint64_t *calls) { (void)calls; }
 void fault_begin(unsigned window)
@@ -312,13 +312,12 @@ uint64_t shadow_first_bad(uint64_t address, uint64_t size)
 unsigned char *windows_start(void) { return memory_of_windows; }
 struct window windows_of_stream(unsigned number)
 {
-    return (struct window){memory_of_windows + ((size_t)number << WINDOW_SHIFT), STREAM_ROOM};
+    return (struct window){memory_of_windows + ((size_t)number << WINDOW_SHIFT), STREAM_ROOM, false};
 }
 bool windows_mend(const void *address) { return address == NULL; }
-bool windows_of_side(unsigned number, struct window *window)
+struct window windows_of_side(unsigned number)
 {
-    *window = (struct window){NULL, number};
-    return true;
+    return (struct window){NULL, number, false};
 }
 bool output_number(char *name, const char *path, unsigned number)
 {
@@ -569,7 +568,7 @@ static void do_step(unsigned thread, enum step step, unsigned number)
         do_fork(thread, RAW_CHILD);
         break;
     case CLOSE:
-        stream_close(true);
+        stream_close(true, 0);
         break;
     case END:
     case KILLED:
@@ -750,7 +749,7 @@ void world_end(void)
     for (unsigned i = 0; i < world.first_file; i++)
         if (world.files[i].window != WINDOWS)
             explore_fail("a child has its parent's file open");
-    stream_close(true);
+    stream_close(true, 0);
     if (locked.trace.bytes != NULL)
         memcpy(world.files[locked.trace.number].bytes, locked.trace.bytes, FILE_ROOM);
     is_whole = true;
