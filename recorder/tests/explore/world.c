@@ -190,7 +190,10 @@ void side_note_late_signal(int number) { (void)number; }
 void side_note_left_out(void) { world.has_left_out = true; }
 void side_note_needed(uint64_t event) { (void)event; }
 void side_note_closed_off(void) {}
-void side_end_modules(uint64_t generation) { (void)generation; }
+void side_end_modules(uint64_t generation)
+{
+    (void)generation;
+}
 _Atomic uint64_t *side_begin_calls(bool for_start) { return for_start ? NULL : NULL; }
 void side_end_calls(_Atomic uint64_t *calls) { (void)calls; }
 void fault_begin(unsigned window)

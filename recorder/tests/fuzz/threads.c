@@ -82,7 +82,10 @@ void side_note_late_signal(int number) { (void)number; }
 void side_note_left_out(void) {}
 void side_note_needed(uint64_t event) { (void)event; }
 void side_write_modules(void) {}
-void side_end_modules(uint64_t generation) { (void)generation; }
+void side_end_modules(uint64_t generation)
+{
+    (void)generation;
+}
 void signal_take_away(int number) { (void)number; }
 void undisturbed_begin(struct disturbance *before) { (void)before; }
 void undisturbed_end(const struct disturbance *before) { (void)before; }
