@@ -38,6 +38,12 @@ INLINED void call_checks_apart(const void *to, size_t size_to, const void *from,
         call_overlaps(to, from, size_from, call);
 }
 
+/* Whether two ranges of a size above 0 have no byte in common. */
+INLINED bool call_is_apart(const void *to, const void *from, size_t size)
+{
+    return (uintptr_t)to - (uintptr_t)from + size - 1 >= 2 * size - 1;
+}
+
 /* Of a range, what comes after so many bytes. Nothing is bad at null. */
 INLINED void call_checks_after(enum code code, const volatile void *start, size_t size, size_t good, struct call call)
 {

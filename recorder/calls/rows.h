@@ -11,6 +11,9 @@
 #define READS(start, size) call_checks(CODE_LOAD, start, (size_t)(size), call)
 #define WRITES(start, size) call_checks(CODE_STORE, start, (size_t)(size), call)
 #define MOVES(to, from, size) call_checks_move(to, from, (size_t)(size), call)
+#define GOOD(start, size) shadow_is_clean_short((uintptr_t)(start), (size_t)(size))
+#define GOOD_BOTH(one, other, size) (GOOD(one, size) && GOOD(other, size))
+#define GOOD_COPY(to, from, size) (GOOD_BOTH(to, from, size) && call_is_apart(to, from, size))
 #define READS_FIRST(start) READS(start, 1)
 #define READS_ARRAY(start, count, size) call_checks_array(CODE_LOAD, start, (size_t)(count), size, call)
 #define WRITES_ARRAY(start, count, size) call_checks_array(CODE_STORE, start, (size_t)(count), size, call)
@@ -81,6 +84,46 @@
         after;                                                                                                         \
         (void)call;                                                                                                    \
         return result;                                                                                                 \
+    }
+
+/* If `good` holds it has looked at all that the rest looks at, and the function is called from where this was: without
+   a frame, and with nothing kept. */
+#define QUICK(name, type, parameters, arguments, good, before, after)                                                  \
+    REAL(type, name, parameters);                                                                                      \
+    STUB(name)                                                                                                         \
+    __attribute__((noinline)) static type checked_all_of_##name parameters                                             \
+    {                                                                                                                  \
+        IS_OWN_FRAME;                                                                                                  \
+        struct call call = THIS_CALL(#name);                                                                           \
+        before;                                                                                                        \
+        type result = real_##name arguments;                                                                           \
+        after;                                                                                                         \
+        (void)call;                                                                                                    \
+        return result;                                                                                                 \
+    }                                                                                                                  \
+    CHECK type checked_##name parameters                                                                               \
+    {                                                                                                                  \
+        IS_OWN_FRAME;                                                                                                  \
+        return LIKELY(good) ? real_##name arguments : checked_all_of_##name arguments;                                 \
+    }
+
+/* Likewise, after the call. */
+#define QUICK_AFTER(name, type, parameters, arguments, good, before, after)                                            \
+    REAL(type, name, parameters);                                                                                      \
+    STUB(name)                                                                                                         \
+    __attribute__((noinline)) static type checked_after_##name(type result, UNPACKED parameters)                       \
+    {                                                                                                                  \
+        IS_OWN_FRAME;                                                                                                  \
+        struct call call = THIS_CALL(#name);                                                                           \
+        (void)sizeof real_##name arguments;                                                                            \
+        after;                                                                                                         \
+        return result;                                                                                                 \
+    }                                                                                                                  \
+    CHECK type checked_##name parameters                                                                               \
+    {                                                                                                                  \
+        IS_OWN_FRAME;                                                                                                  \
+        type result = real_##name arguments;                                                                           \
+        return LIKELY(good) ? result : checked_after_##name(result, UNPACKED arguments);                               \
     }
 
 #define NO_RESULT(name, parameters, arguments, before, after)                                                          \

@@ -123,29 +123,48 @@ HELPER static bool is_in_page(const char *at)
     return ((uintptr_t)at & (PAGE - 1)) <= PAGE - sizeof(__m128i);
 }
 
-/* How many of the first bytes are the same in both and not zero. It ends also where a page does. */
-HELPER __attribute__((no_sanitize("address"))) static size_t same_front(const char *one, const char *other, size_t most)
+enum { BLOCK = sizeof(__m128i) };
+
+/* Of two blocks a bit for each byte that differs or is an end. */
+HELPER __attribute__((no_sanitize("address"))) static inline unsigned stops_in_block(const char *one, const char *other)
 {
-    enum { BLOCK = sizeof(__m128i), ALL = (1 << BLOCK) - 1 };
-    size_t same = 0;
-    for (; most - same >= BLOCK && is_in_page(one + same) && is_in_page(other + same); same += BLOCK) {
-        __m128i first = _mm_loadu_si128((const __m128i *)(one + same));
-        __m128i second = _mm_loadu_si128((const __m128i *)(other + same));
-        __m128i is_end = _mm_cmpeq_epi8(first, _mm_setzero_si128());
-        /* A byte that is the same and no end. */
-        __m128i goes_on = _mm_andnot_si128(is_end, _mm_cmpeq_epi8(first, second));
-        unsigned stops = (unsigned)_mm_movemask_epi8(goes_on) ^ ALL;
-        if (stops != 0)
-            return same + (unsigned)__builtin_ctz(stops);
-    }
-    return same;
+    __m128i first = _mm_loadu_si128((const __m128i *)one), second = _mm_loadu_si128((const __m128i *)other);
+    __m128i is_end = _mm_cmpeq_epi8(first, _mm_setzero_si128());
+    __m128i goes_on = _mm_andnot_si128(is_end, _mm_cmpeq_epi8(first, second));
+    return (unsigned)_mm_movemask_epi8(goes_on) ^ ((1 << BLOCK) - 1);
 }
 
+/* How many of the first bytes are the same in both and not zero, at most so many. It ends also where a page does. */
+HELPER static size_t same_front(const char *one, const char *other, size_t most)
+{
+    size_t same = 0;
+    for (; same < most && is_in_page(one + same) && is_in_page(other + same); same += BLOCK) {
+        unsigned stops = stops_in_block(one + same, other + same);
+        if (stops != 0)
+            return least(same + (unsigned)__builtin_ctz(stops), most);
+    }
+    return least(same, most);
+}
+
+/* Whether both strings are read no farther than one block, and all that is read is good: so bytes are read here, before
+   the shadow, as in `compares`. */
+INLINED bool good_comparison(const char *one, const char *other, size_t most)
+{
+    if (most == 0 || !is_in_page(one) || !is_in_page(other))
+        return false;
+    unsigned stops = stops_in_block(one, other);
+    if (UNLIKELY(stops == 0))
+        return false;
+    size_t read = least((size_t)(unsigned)__builtin_ctz(stops) + 1, most);
+    return GOOD_BOTH(one, other, read);
+}
+
+/* A block is compared at each byte; if letters are folded at each sixteenth, since bytes may differ often then. */
 static inline void compares(const char *one, const char *other, size_t most, int fold(int), struct call call)
 {
     size_t read = 0;
     while (read < most) {
-        if (read % sizeof(__m128i) == 0)
+        if (fold == as_it_is || read % BLOCK == 0)
             read += same_front(one + read, other + read, most - read);
         if (read == most)
             break;
@@ -171,6 +190,7 @@ HELPER static void wide_compares(const wchar_t *one, const wchar_t *other, size_
     READS_ARRAY(other, read, sizeof *other);
 }
 
+#define GOOD_COMPARISON(one, other, most) good_comparison(one, other, most)
 #define COMPARES(one, other, most) compares(one, other, most, as_it_is, call)
 #define COMPARES_FOLDED(one, other, most) compares(one, other, most, lowered, call)
 #define WIDE_COMPARES(one, other, most) wide_compares(one, other, most, as_it_is, call)

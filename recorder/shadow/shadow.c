@@ -35,6 +35,34 @@ void shadow_note_file(uint64_t address, bool is_of_file)
 
 #endif
 
+bool shadow_is_clean_long(uint64_t address, uint64_t size)
+{
+    if (size == 0)
+        return true;
+    if (address >= ADDRESS_END || size > ADDRESS_END - address)
+        return false;
+    const unsigned char *at = (const unsigned char *)shadow_of(address);
+    const unsigned char *last = (const unsigned char *)shadow_of(address + size - 1);
+    for (uint64_t words[4]; last - at >= (ptrdiff_t)sizeof words; at += sizeof words) {
+        __builtin_memcpy(words, at, sizeof words);
+        if ((words[0] | words[1] | words[2] | words[3]) != 0)
+            return false;
+    }
+    uint64_t word;
+    for (; last - at >= (ptrdiff_t)sizeof word; at += sizeof word) {
+        __builtin_memcpy(&word, at, sizeof word);
+        if (word != 0)
+            return false;
+    }
+    /* Those before the last one at once, and without what lies after them. */
+    if (at < last) {
+        __builtin_memcpy(&word, at, sizeof word);
+        if (word << (sizeof word - (size_t)(last - at)) * 8 != 0)
+            return false;
+    }
+    return *last == 0 || (*last < GRANULE && (address + size - 1) % GRANULE < *last);
+}
+
 /* Whether whole pages of it are zeros once they are given back. */
 static bool has_zeros_behind(uint64_t address, uint64_t size)
 {

@@ -139,33 +139,25 @@ static inline bool is_frame_in_block(uint64_t address, unsigned width)
     return shade != 0 && address % GRANULE + width > shade && is_of_frame(*shadow_of(address + GRANULE));
 }
 
-/* Whether each byte of a region is addressable. */
+/* Whether each byte of a region is addressable, of any region; */
+bool shadow_is_clean_long(uint64_t address, uint64_t size) OWN_NAME(shadow_is_clean_long);
+
+/* and of one whose granules have their shadow in one word. Of others it is false. The last granule's comes to the top,
+   without what lies after it, and all before it have to be zeros. */
+static inline bool shadow_is_clean_short(uint64_t address, uint64_t size)
+{
+    uint64_t word, within = address % GRANULE, last = within + size - 1;
+    if (UNLIKELY(size - 1 >= sizeof word * GRANULE - within || address >= ADDRESS_END - sizeof word * GRANULE))
+        return false;
+    __builtin_memcpy(&word, (const unsigned char *)shadow_of(address), sizeof word);
+    word <<= ~last & (sizeof word - 1) * GRANULE;
+    uint64_t shade = word >> (sizeof word - 1) * GRANULE;
+    return LIKELY(word == 0) || (word << GRANULE == 0 && shade < GRANULE && last % GRANULE < shade);
+}
+
 static inline bool shadow_is_clean(uint64_t address, uint64_t size)
 {
-    if (size == 0)
-        return true;
-    if (address >= ADDRESS_END || size > ADDRESS_END - address)
-        return false;
-    const unsigned char *at = (const unsigned char *)shadow_of(address);
-    const unsigned char *last = (const unsigned char *)shadow_of(address + size - 1);
-    for (uint64_t words[4]; last - at >= (ptrdiff_t)sizeof words; at += sizeof words) {
-        __builtin_memcpy(words, at, sizeof words);
-        if ((words[0] | words[1] | words[2] | words[3]) != 0)
-            return false;
-    }
-    uint64_t word;
-    for (; last - at >= (ptrdiff_t)sizeof word; at += sizeof word) {
-        __builtin_memcpy(&word, at, sizeof word);
-        if (word != 0)
-            return false;
-    }
-    /* Those before the last one at once, and without what lies after them. */
-    if (at < last) {
-        __builtin_memcpy(&word, at, sizeof word);
-        if (word << (sizeof word - (size_t)(last - at)) * 8 != 0)
-            return false;
-    }
-    return *last == 0 || (*last < GRANULE && (address + size - 1) % GRANULE < *last);
+    return LIKELY(shadow_is_clean_short(address, size)) || shadow_is_clean_long(address, size);
 }
 
 /* Makes all granules that a region touches addressable. */

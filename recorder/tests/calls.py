@@ -11,7 +11,9 @@ from support import RECORDER, TESTS, Compiler, Suite, Trace, expect, leave_out, 
 from testing.programs import NO_SETTINGS
 from testing.side import GLOBAL, NO_VARIABLE, OF_STACK
 
-ROW = re.compile(r"^(CALL|NO_RESULT|LOCK|(?:WIDE_)?(?:PRINT|SCAN)|LOG|MESSAGE)\((.*?)\)(?=\n(?! )|\Z)", re.M | re.S)
+CALLS = ("CALL", "QUICK", "QUICK_AFTER")
+WORD = "CALL|QUICK|QUICK_AFTER|NO_RESULT|LOCK|(?:WIDE_)?(?:PRINT|SCAN)|LOG|MESSAGE"
+ROW = re.compile(rf"^({WORD})\((.*?)\)(?=\n(?! )|\Z)", re.M | re.S)
 
 
 class Row(NamedTuple):
@@ -27,10 +29,10 @@ class Row(NamedTuple):
     def result(self) -> str:
         if self.word in ("NO_RESULT", "LOG", "MESSAGE"):
             return "void"
-        return self.rest[0] if self.word == "CALL" else "int"
+        return self.rest[0] if self.word in CALLS else "int"
 
     def has_format(self) -> bool:
-        return self.word not in ("CALL", "NO_RESULT", "LOCK")
+        return self.word not in (*CALLS, "NO_RESULT", "LOCK")
 
     def has_list(self) -> bool:
         """Whether there is a function with a va_list beside it: the first of the rest."""
