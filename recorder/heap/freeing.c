@@ -54,12 +54,12 @@ static inline void note_call_site(const struct block *block, struct origin from)
 }
 
 /* The thread that makes a live block a held one has freed it, if another one tries too. Not a block that is live:
-   false. */
+   false. If nothing is recorded, two threads that free a block at the same moment are as wrong as without us. */
 static bool take_from_program(struct block *block, struct block now)
 {
     struct block held = now;
     held.state = BLOCK_HELD;
-    if (library_is_alone()) {
+    if (heap.is_unpainted || library_is_alone()) {
         block_write(block, held);
         return true;
     }
@@ -79,7 +79,8 @@ static inline enum freeing free_forward(struct shard *shard, struct block *block
         paint_held(address, block->size);
     note_call_site(block, from);
     note_left_out(shard);
-    forward_bury(shard, block, unit);
+    if (!is_kept_free(shard, block, unit))
+        forward_bury(shard, block, unit);
     return FREEING_DONE;
 }
 
@@ -102,7 +103,9 @@ static bool is_as_made(const struct block *block, const struct use *use)
     return has_size && block->family == use->family && NOTE_NOW(block->alignment) == use->alignment;
 }
 
-enum freeing free_in_shard(struct shard *shard, uintptr_t address, struct origin from, const struct use *use)
+/* All of it in one: a call from part to part takes as long as the parts. */
+__attribute__((flatten)) enum freeing free_in_shard(struct shard *shard, uintptr_t address, struct origin from,
+                                                    const struct use *use)
 {
     uintptr_t start;
     struct block *block = block_around(address, &start), now = {0};

@@ -50,10 +50,16 @@ static inline size_t room_for(size_t size, size_t alignment)
     return rounded + alignment - ALIGNMENT + gap_for(size);
 }
 
+/* Before the first slot of a slab. */
+static inline size_t lead_of_slab(uint32_t slot_size)
+{
+    return lead_for(slot_size - (size_t)2 * REDZONE);
+}
+
 /* The notes on a unit that becomes a slab of slots of this size. */
 static inline struct unit slab_of(uint32_t slot_size)
 {
-    uint16_t lead = (uint16_t)lead_for(slot_size - (size_t)2 * REDZONE);
+    uint16_t lead = (uint16_t)lead_of_slab(slot_size);
     return (struct unit){.kind = UNIT_SLAB, .lead = lead, .count = slot_factor(slot_size), .slot_size = slot_size};
 }
 

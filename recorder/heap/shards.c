@@ -322,30 +322,12 @@ struct block *forward_take_run(size_t count)
     return first == 0 ? NULL : block_at(first, 0);
 }
 
-/* Of each class. */
-enum { MOST_FREE_BYTES = 4 * UNIT };
-
-/* Nothing is recorded, so the slot may be the next one that is handed out. */
-static bool is_kept_free(struct shard *shard, struct block *block, uint32_t unit)
-{
-    uint32_t slot_size;
-    unsigned class = class_of(arena.units[unit].slot_size, &slot_size);
-    if (shard == NULL || shard->free_bytes[class] + slot_size > MOST_FREE_BYTES)
-        return false;
-    shard->free_bytes[class] += slot_size;
-    SET_NOTE(block->next, shard->free[class]);
-    shard->free[class] = block;
-    return true;
-}
-
 void forward_bury(struct shard *shard, struct block *block, uint32_t unit)
 {
     if (arena.units[unit].kind == UNIT_RUN) {
         retire_run(unit);
         return;
     }
-    if (heap.is_unpainted && is_kept_free(shard, block, unit))
-        return;
     __atomic_store_n(&block->settled, BLOCK_SETTLED, __ATOMIC_RELEASE);
     if (count_down(unit))
         retire(shard, unit);

@@ -15,7 +15,7 @@
 #ifndef ASANCOL_SHARDS_H
 #define ASANCOL_SHARDS_H
 
-#include "heap/blocks.h"
+#include "heap/placing.h"
 
 /* A shard for a thread, or null: there is no memory. And back. The gate is held, or there is one thread. */
 struct shard *shard_take(void);
@@ -34,6 +34,12 @@ struct slot {
 
 struct slot shard_take_other(struct shard *shard, unsigned class, uint32_t slot_size);
 
+/* Where a slot of this size begins: what the notes on its unit say, without a look at them. */
+static inline uintptr_t start_in_slab(const struct block *slot, uint32_t slot_size)
+{
+    return (uintptr_t)unit_start(unit_of(slot)) + lead_of_slab(slot_size) + (size_t)slot_of(slot) * slot_size;
+}
+
 /* A slot of a class, of whoever is in this shard. */
 static inline struct slot shard_take_slot(struct shard *shard, unsigned class, uint32_t slot_size)
 {
@@ -42,7 +48,25 @@ static inline struct slot shard_take_slot(struct shard *shard, unsigned class, u
         return shard_take_other(shard, class, slot_size);
     shard->free[class] = free->next;
     shard->free_bytes[class] -= slot_size;
-    return (struct slot){free, (uintptr_t)slot_start(free)};
+    return (struct slot){free, start_in_slab(free, slot_size)};
+}
+
+/* Of each class. */
+enum { MOST_FREE_BYTES = 4 * UNIT };
+
+/* If nothing is recorded, the slot may be the next one that is handed out. False: it is no slot, or enough are kept. */
+static inline bool is_kept_free(struct shard *shard, struct block *block, uint32_t unit)
+{
+    uint32_t slot_size;
+    if (!heap.is_unpainted || shard == NULL || arena.units[unit].kind != UNIT_SLAB)
+        return false;
+    unsigned class = class_of(arena.units[unit].slot_size, &slot_size);
+    if (shard->free_bytes[class] + slot_size > MOST_FREE_BYTES)
+        return false;
+    shard->free_bytes[class] += slot_size;
+    SET_NOTE(block->next, shard->free[class]);
+    shard->free[class] = block;
+    return true;
 }
 
 /* A run of units, which are poison unless it is big; or null. */
