@@ -1,3 +1,4 @@
 pub mod Complete
 pub mod Reasons
 pub mod Worse
+pub mod Runs

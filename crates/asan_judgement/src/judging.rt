@@ -139,8 +139,7 @@ fn what_did_not_come(fate: Fate, ending: Ending, facts: &Facts) -> Option<Why>
     ensures memory { IfNone result (fate ≢ NoMemory) }
     ensures limit { IfNone result (fate ≢ TooMany) }
 {
-    let has_no_end =
-        (is_cut_off(fate) || fate == Fate::Malformed) && ending == Ending::Unheard;
+    let has_no_end = (is_cut_off(fate) || fate == Fate::Malformed) && ending == Ending::Unheard;
     if fate == Fate::NoMemory {
         return Some(Why::CheckerHadNoMemory);
     }

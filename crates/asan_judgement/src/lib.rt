@@ -7,9 +7,11 @@
 mod facts;
 mod judging;
 mod laws;
+mod run;
 mod verdict;
 
 pub use facts::{Ending, Facts, Fate};
 pub use judging::judge;
 pub use laws::worse_facts_make_nothing_complete;
+pub use run::{Process, Run, Said, Statuses, status_of};
 pub use verdict::{Answer, Verdict, Why};
