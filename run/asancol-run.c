@@ -34,6 +34,7 @@
 #include "say.h"
 #include "segments.h"
 #include "signals.h"
+#include "status.h"
 #include "unchecked.h"
 #include "verdict.h"
 
@@ -160,11 +161,24 @@ static struct strings troubles_of(const struct run_end *end)
     return lines;
 }
 
+/* What the status follows from, before asancol-report has said anything. */
+static struct seen seen_of(const struct sum *sum, const struct run_end *end)
+{
+    return (struct seen){
+        .reports = sum->reports,
+        .incomplete = sum->incomplete,
+        .unchecked = sum->unchecked,
+        .nothing = end->nothing,
+        .is_cut_short = end->missing > 0 || end->is_running || end->has_timed_out || end->lost > 0,
+        .has_failed = end->status != 0,
+    };
+}
+
 /* Whether something was not seen, apart from that nothing was recorded. */
 static bool is_cut_short(const struct sum *sum, const struct run_end *end)
 {
-    size_t rest = end->nothing ? sum->incomplete - sum->unchecked : sum->incomplete;
-    return rest > 0 || end->missing > 0 || end->is_running || end->has_timed_out || end->lost > 0;
+    struct seen seen = seen_of(sum, end);
+    return !status_is_all_seen(&seen);
 }
 
 /* Ends the feed, and answers what asancol-report says; or says it here if it did not run. */
@@ -213,20 +227,30 @@ static int end_as(int status)
     return 128 + WTERMSIG(status);
 }
 
-/* The first rule that applies. A command that has failed, or was cut short, is no test without anything to check. */
-static int status_of(const struct options *options, enum report_answer answer, const struct sum *sum,
-                     const struct run_end *end, bool is_incomplete)
+static enum said said_by(enum report_answer answer)
 {
-    bool is_known = answer == ANSWER_CLEAN || answer == ANSWER_REPORTS || answer == ANSWER_INCOMPLETE;
-    bool has_reports = is_known ? answer == ANSWER_REPORTS : sum->reports > 0;
-    is_incomplete |= !is_known || (answer == ANSWER_INCOMPLETE && !end->nothing);
-    if (has_reports && options->exitcode != 0)
-        return (int)options->exitcode;
-    if (end->nothing && options->nothing != 0 && end->status == 0 && !is_incomplete)
-        return (int)options->nothing;
-    if ((is_incomplete || (end->nothing && options->nothing != 0)) && options->incomplete != 0)
-        return (int)options->incomplete;
-    return end_as(end->status);
+    switch (answer) {
+    case ANSWER_CLEAN:
+        return SAID_CLEAN;
+    case ANSWER_REPORTS:
+        return SAID_COUNTS;
+    case ANSWER_INCOMPLETE:
+        return SAID_INCOMPLETE;
+    default:
+        return SAID_NOTHING;
+    }
+}
+
+/* Ends as the run does, or by the signal of the command. */
+static int due_status(const struct options *options, enum report_answer answer, const struct sum *sum,
+                      const struct run_end *end, bool is_incomplete)
+{
+    struct seen seen = seen_of(sum, end);
+    struct statuses statuses = {options->exitcode, options->incomplete, options->nothing};
+    seen.said = said_by(answer);
+    seen.is_cut_short |= is_incomplete;
+    int status = status_of(&seen, &statuses);
+    return status == STATUS_OF_COMMAND ? end_as(end->status) : status;
 }
 
 /* One for signals, and one for what connects: a run that can take nothing in would wait for ever. A limit that can be
@@ -328,5 +352,5 @@ int main(int count, char **argv)
     enum report_answer answer = conclude(&options, &sum, &end, nested.is_there);
     folder_remove();
     is_incomplete |= is_error || !say_close();
-    return status_of(&options, answer, &sum, &end, is_incomplete);
+    return due_status(&options, answer, &sum, &end, is_incomplete);
 }

@@ -12,6 +12,7 @@
 
 #include "deaths.h"
 #include "end_line.h"
+#include "judgement_rows.h"
 #include "say.h"
 #include "texts.h"
 
@@ -25,138 +26,6 @@ const char *signal_name(int number)
         snprintf(room, sizeof room, "signal %d", number);
     return room;
 }
-
-/* How a trace ended, by its end line. */
-enum {
-    CLOSED = 1 << 0,
-    NO_CLOSE = 1 << 1,
-    TRUNCATED = 1 << 2,
-    UNWRITTEN = 1 << 3, /* a file that goes on with zeros */
-    MALFORMED = 1 << 4,
-    TOO_MANY = 1 << 5,
-    NO_MEMORY = 1 << 6,
-    NOT_CHECKED = 1 << 7,
-    OTHER_FATE = 1 << 8,
-    CUT_OFF = NO_CLOSE | TRUNCATED | UNWRITTEN
-};
-
-/* How the process ended, by its recorder. */
-enum {
-    NONE = 1 << ENDING_NONE,
-    EXIT = 1 << ENDING_EXIT,
-    EXEC = 1 << ENDING_EXEC,
-    SIGNAL = 1 << ENDING_SIGNAL,
-    LOST = 1 << ENDING_LOST,
-    SEGMENT = 1 << ENDING_SEGMENT,
-    OTHER_ENDING = 1 << 6
-};
-
-enum { ANY = (1 << 9) - 1 };
-
-/* What else is known. README.md says it in words. */
-enum {
-    BY_WAIT = 1 << 0,
-    BY_TIMEOUT = 1 << 1,
-    KILLED = 1 << 2,
-    LIMIT = 1 << 3,
-    LEFT_OUT = 1 << 4,
-    ONE_SEGMENT = 1 << 5,
-    OWN_CALL = 1 << 6,
-    GONE = 1 << 7,
-    REPLACED = 1 << 8,
-    NONE_MISSING = 1 << 9,
-    BAD_MISSING = 1 << 10,
-    ALL_CAME = 1 << 11,
-    CHECKS = 1 << 12,
-    MAIN = 1 << 13,
-    FILE_ALONE = 1 << 14,
-    FINDINGS_LOST = 1 << 15,
-    LEAKS_MISSED = 1 << 16,
-    INSIDE = 1 << 17,
-    CLOSED_OFF = 1 << 18,
-    BY_OTHERS = 1 << 19,
-    BESIDE = 1 << 20,
-    CONTRADICTION = 1 << 21
-};
-
-struct row {
-    unsigned fates, endings, holds, lacks;
-    enum answer answer;
-    const char *why; /* say_why fills in its words in capitals */
-};
-
-/* The judgement: the first row that applies counts. README.md has the same rows, and each has a test
-   (tests/judge.py). */
-static const struct row rows[] = {
-    {ANY, ANY, BY_WAIT, ALL_CAME, INCOMPLETE,
-     "still ran at the end of asancol-run"},
-    {ANY & ~CLOSED, NONE | SIGNAL | LOST | SEGMENT, BY_TIMEOUT, 0, INCOMPLETE,
-     "was ended by --timeout"},
-    {NOT_CHECKED, ANY, KILLED, 0, INCOMPLETE,
-     "its checker was ended by CHECKER"},
-    {NOT_CHECKED, ANY, 0, 0, INCOMPLETE,
-     "its checker printed no verdict, and ended with status CHECKER"},
-    {ANY, ANY, INSIDE, 0, INCOMPLETE,
-     "died in the recorder, by SIGNAL: a mistake of asancol's, or of a wrong store into its memory"},
-    {ANY, ANY, LIMIT | LEFT_OUT | ONE_SEGMENT, 0, INCOMPLETE,
-     "reached the event limit: LEFT of ALL events were not recorded, since ASANCOL_SEGMENTS is 0"},
-    {ANY, ANY, LIMIT | LEFT_OUT, 0, INCOMPLETE,
-     "reached the event limit: LEFT of ALL events were not recorded"},
-    {ANY, ANY, LIMIT, 0, INCOMPLETE,
-     "reached the event limit, and was not seen to end"},
-    {ANY, ANY, OWN_CALL, 0, INCOMPLETE,
-     "ended in a call of the recorder's own, or before an exec, as by SIGKILL or a filter of system calls"},
-    {ANY, ANY, FINDINGS_LOST, 0, INCOMPLETE,
-     "its recorder had no room for LOST of its findings"},
-    {ANY, ANY, LEAKS_MISSED, 0, INCOMPLETE,
-     "leaks of it were not looked for, as if a thread does not stop"},
-    {ANY, ANY, CONTRADICTION, 0, INCOMPLETE,
-     "what stands beside its trace contradicts itself, as after a wild store there"},
-    {CUT_OFF, NONE, GONE | NONE_MISSING, CHECKS, UNCHECKED,
-     "no code of it was compiled by asancol-cc"},
-    {CUT_OFF, NONE, GONE | NONE_MISSING | REPLACED | MAIN, 0, COMPLETE,
-     "ran another program, by an exec in a library"},
-    {CUT_OFF, NONE, GONE | NONE_MISSING | REPLACED, 0, BEFORE_MAIN,
-     "ran another program, by an exec in a library"},
-    {CUT_OFF, NONE, GONE | NONE_MISSING | MAIN, 0, UP_TO_THERE,
-     "ended abruptly, HOW"},
-    {CUT_OFF, NONE, GONE | NONE_MISSING | BY_OTHERS, 0, UP_TO_THERE,
-     "ended abruptly, HOW, before main"},
-    {CUT_OFF, NONE, GONE | NONE_MISSING, 0, BEFORE_MAIN,
-     "ended abruptly, HOW, before main"},
-    {NO_MEMORY, ANY, 0, 0, INCOMPLETE,
-     "its checker had no more memory after EVENTS events"},
-    {TOO_MANY, ANY, 0, 0, INCOMPLETE,
-     "reached the event limit of its checker, after EVENTS events"},
-    {ANY, ANY, CLOSED_OFF | BAD_MISSING, ALL_CAME, INCOMPLETE,
-     "it has closed all its descriptors: MISSING"},
-    {ANY, LOST, CLOSED_OFF, ALL_CAME, INCOMPLETE,
-     "it has closed all its descriptors, and ASANCOL_SEGMENTS is 0"},
-    {ANY, LOST, 0, ALL_CAME, INCOMPLETE,
-     "its recording ended early"},
-    {CUT_OFF | MALFORMED, NONE, BAD_MISSING, 0, INCOMPLETE,
-     "ended abruptly, HOW: MISSING"},
-    {UNWRITTEN, NONE, FILE_ALONE, 0, INCOMPLETE,
-     "ended abruptly, as by SIGKILL, or an _exit or exec in a library, or still running"},
-    {CUT_OFF | MALFORMED, NONE, 0, FILE_ALONE, INCOMPLETE,
-     "ended abruptly, HOW: what came last was not seen"},
-    {ANY, ANY, BAD_MISSING, ALL_CAME, INCOMPLETE,
-     "it ended: MISSING"},
-    {ANY, ANY, 0, ALL_CAME, INCOMPLETE,
-     "its trace ended as FATE"},
-    {ANY, ANY, 0, BESIDE, INCOMPLETE,
-     "its findings and leaks are not known, since nothing stands beside its trace: CAUSE"},
-    {ANY, ANY, 0, CHECKS, UNCHECKED,
-     "no code of it was compiled by asancol-cc"},
-    {ANY, SIGNAL, MAIN, 0, COMPLETE,
-     "ended by SIGNAL"},
-    {ANY, SIGNAL, BY_OTHERS, 0, UP_TO_THERE,
-     "ended by SIGNAL before main"},
-    {ANY, SIGNAL, 0, 0, BEFORE_MAIN,
-     "ended by SIGNAL before main"},
-    {ANY, ANY, 0, 0, COMPLETE,
-     ""},
-};
 
 /* One more than the number of the last event that may be bad; 0: nobody says it. */
 static uint64_t needed_of(const struct segment *segment)
@@ -533,15 +402,6 @@ static unsigned facts_of(struct segment *segment, unsigned fate)
 static unsigned ending_of(const struct segment *segment)
 {
     return segment->outcome.ending <= ENDING_SEGMENT ? 1u << segment->outcome.ending : OTHER_ENDING;
-}
-
-static const struct row *find_row(unsigned fate, unsigned ending, unsigned facts)
-{
-    const struct row *row = rows;
-    while (!(row->fates & fate) || !(row->endings & ending) || (facts & row->holds) != row->holds
-           || (facts & row->lacks))
-        row++; /* the last one takes all */
-    return row;
 }
 
 void verdict_blame_limit(struct outcome *outcome)

@@ -6,12 +6,12 @@ usage: tests/gate.py                      the gate
 
 The gate first runs `lint_tree.py`, in seconds, and ends there if that finds something. Then comes
 `rt ci`: it proves each crate from nothing and runs the tests. It builds the program with two
-compilers and leaves both. `runs.py` runs both programs with words, and `fuzz.py` compares them with
-an oracle. Beside all of them `planted.py` and `mutants.py` try the mutants, and what they print
-comes at the end. A table shows the processor seconds of each crate (`costs.py`
-says how they are counted), and lines below it those of each part, and if all took longer than they
-should. The last line is 'N passed, M failed', of all of them together. The status is 0 where
-nothing failed.
+compilers and leaves both. `decisions.py` compares decisions of the C programs with proved ones.
+`runs.py` runs both programs with words, and `fuzz.py` compares them with an oracle. Beside all of
+them `planted.py` and `mutants.py` try the mutants, and what they print comes at the end. A table
+shows the processor seconds of each crate (`costs.py` says how they are counted), and lines below it
+those of each part, and if all took longer than they should. The last line is 'N passed, M failed',
+of all of them together. The status is 0 where nothing failed.
 
 With `--changed` only the crates with a file that differs from BASE are checked, and those that
 stand on them, over what earlier checks kept. BASE is the commit where the branch left `main`, if
@@ -30,6 +30,7 @@ import time
 from typing import Callable, Dict, List, Optional, Set, Tuple
 
 import costs
+import decisions
 
 TOP = os.path.dirname(os.path.dirname(os.path.abspath(__file__)))
 
@@ -42,6 +43,7 @@ FUZZ = ["tests/fuzz.py", "--draws", "4000", "--seed", "1"]
 # What comes after the lint, one after another, each with the part that it counts as.
 STEPS = [
     ("rt ci", ["rt", "ci"]),
+    ("decisions", [sys.executable, "tests/decisions.py"]),
     ("runs", [sys.executable, "tests/runs.py", *PROGRAMS]),
     ("fuzz", [sys.executable, *FUZZ, *PROGRAMS]),
 ]
@@ -276,6 +278,8 @@ def steps_for(changed: Set[str], listed: Dict[str, List[str]]) -> List[Tuple[str
     if edited:
         steps.append((".", [sys.executable, "tests/mutants.py", *edited]))
     steps += [(f"crates/{it}", ["rt", "test"]) for it in above if has_tests(it)]
+    if any(it.crate in above for it in decisions.ALL):
+        steps.append((".", [sys.executable, "tests/decisions.py"]))
     if "asancol" in above:
         steps.append(("crates/asancol", ["rt", "run", "--", "--version"]))
         steps.append((".", [sys.executable, "tests/runs.py", PROGRAMS[0]]))

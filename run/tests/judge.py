@@ -1,4 +1,4 @@
-"""The table by which run/verdict.c judges each process: run/README.md has the same, and each row has a test."""
+"""The table by which each process is judged: run/README.md has the same, and each row has a test."""
 
 import importlib
 import inspect
@@ -13,6 +13,7 @@ from testing.programs import call
 
 ENDED = f"{TESTS}/ended.py"
 PAGE = "run/README.md"
+ROWS = "run/judgement_rows.h"
 # What stands for something in a text.
 WORDS = re.compile(r"\b(HOW|MISSING|CHECKER|SIGNAL|EVENTS|LEFT|ALL|FATE|LOST|CAUSE)\b")
 
@@ -97,9 +98,9 @@ def in_words(cell: str) -> str:
 
 
 def rows_of_program() -> List[Row]:
-    table = re.search(r"static const struct row rows\[\] = \{\n(.*?)\n\};", read("run/verdict.c"), re.S)
+    table = re.search(r"static const struct row rows\[\] = \{\n(.*?)\n\};", read(ROWS), re.S)
     if table is None:
-        raise Failure("run/verdict.c has no table")
+        raise Failure(f"{ROWS} has no table")
     rows = [Row._make([*map(in_words, cells.split(", ")), why])
             for cells, why in re.findall(r'\{([^"]+),\s*"([^"]*)"\}', table[1])]
     expect(len(rows), table[1].count("{"), "rows that were read")
@@ -141,6 +142,16 @@ def line_of(row: Row) -> str:
     if row.answer == "complete":
         return f"{NAME}: complete{': ' if why else ''}{why}, 11 events, 0 reports\n"
     return f"{NAME}: INCOMPLETE: {why}\n"
+
+
+def check_all_inputs(suite: Suite, folder: str) -> None:
+    """The table is what crates/asan_judgement says of all inputs: tests/decisions.py sees to that."""
+    sources = [f"{TESTS}/judged.c", f"{TOP}/run/status.c"]
+    call(["cc", "-O2", f"-iquote{TOP}", *sources, "-o", f"{folder}/judged"], check=True)
+    ran = call([f"{folder}/judged"], stdout=subprocess.PIPE, text=True, check=True)
+    for one, other in zip(ran.stdout.splitlines(), read("run/tests/judged.txt").splitlines()):
+        expect(one, other, "a line of run/tests/judged.txt")
+    expect(ran.stdout, read("run/tests/judged.txt"), "run/tests/judged.txt")
 
 
 def check_end(suite: Suite, folder: str, row: Row, end: End) -> None:
@@ -241,6 +252,7 @@ def tests(suite: Suite) -> None:
     suite.test("judge: files", check_files)
     suite.test("judge: the page", check_page)
     suite.test("judge: each row has a test", check_each_has_a_test)
+    suite.test("judge: all inputs", check_all_inputs)
     suite.test("judge: a late death", check_late_death)
     suite.test("judge: crashes", check_crashes)
     suite.test("judge: end lines", check_end_lines)

@@ -9,8 +9,8 @@ use Rattle.asan_judgement.specs.declared.verdict.Why.{Why}
 use Rattle.asan_judgement.specs.declared.verdict.Why.TheVariants as why
 use Rattle.asan_judgement.specs.Complete.{is_cut_off, is_ended_from_outside}
 
--- the trace breaks off, and nothing says how the process ended: it is gone, and nothing bad of it is
--- missing
+-- the trace breaks off, and nothing says how the process ended: it is gone, and nothing bad of it
+-- is missing
 abbrev pub IsGoneAbruptly : Fate → Ending → Facts → Type 0
 IsGoneAbruptly f e facts =
     (is_cut_off f ≡ true) × (e ≡ ending.Unheard) × (facts.gone ≡ true)

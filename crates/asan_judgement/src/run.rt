@@ -125,7 +125,8 @@ fn is_all_seen(processes: &[Process], run: &Run) -> bool
 
 /// The status of a run.
 pub fn status_of(processes: &[Process], run: &Run, statuses: &Statuses) -> u8
-    ensures complete { AreUsual statuses.now → result ≡ 0 → list_all was_complete processes.now ≡ true }
+    ensures complete { AreUsual statuses.now → result ≡ 0
+        → list_all was_complete processes.now ≡ true }
     ensures quiet { AreUsual statuses.now → result ≡ 0
         → is_report_counted run.now.said processes.now ≡ false }
     ensures well { AreUsual statuses.now → result ≡ 0 → run.now.command ≡ 0 }
