@@ -22,6 +22,16 @@ def as_many_processes_as_files(program):
 
 
 @test
+def limits_of_each_size(program):
+    """A limit that no trace reaches changes nothing: powers of two and of ten, and their neighbors."""
+    put("past", PAST_THE_END)
+    put("sound", SOUND)
+    powers = [*(2**i for i in range(2, 25)), *(10**i for i in range(1, 8))]
+    for limit in sorted({it + step for it in powers for step in (-1, 0, 1)} - {2**24 + 1}):
+        program.expect(["check", "--limit", str(limit), "past", "sound"], 1, past_the_end(0) + sound(1))
+
+
+@test
 def one_file_twice(program):
     path = put("trace", PAST_THE_END)
     program.expect(["check", path, path], 1, past_the_end(0) + past_the_end(1))
