@@ -1,4 +1,4 @@
--- What each reason says of a process: run/judgement.h has its text.
+-- What each reason says of a process: run/judgement_rows.h has its text.
 use Rattle.std.specs.Prelude.{◌≡◌, ◌≢◌, ◌⊎◌, true, false}
 use Rattle.asan_judgement.specs.declared.facts.Fate.{Fate}
 use Rattle.asan_judgement.specs.declared.facts.Fate.TheVariants as fate

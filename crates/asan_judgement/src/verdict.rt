@@ -13,7 +13,7 @@ pub enum Answer {
     Incomplete,
 }
 
-/// Why, which is a row of run/judgement.h.
+/// Why, which is a row of run/judgement_rows.h.
 #[derive(Clone, Copy, PartialEq, Eq)]
 pub enum Why {
     StillRan,
