@@ -1,5 +1,6 @@
 #!/usr/bin/env python3
-"""Writes what is made of the tables of options beside it: completions, lists of manual pages, and code.
+"""Writes what is made of the tables of options beside it: completions, lists of manual pages, and code; and the tables
+of docs/ASAN.md, of common/asan_options.def.
 
 usage: options/make.py [--check [ASANCOL]]
 
@@ -18,6 +19,7 @@ import subprocess
 import sys
 from typing import Dict, Iterator, List
 
+import asan
 import completions
 import pages
 import sources
@@ -90,6 +92,7 @@ def main(argv: List[str]) -> int:
     files: Dict[str, str] = {}
     for name in TABLES:
         files.update(files_of(name, [it for it in programs if it.table == name]))
+    files[asan.PAGE] = asan.page_of(text_of(asan.PAGE), text_of(asan.TABLE))
     others = [path for path, text in files.items() if text != text_of(path)]
     if not argv:
         for path in others:

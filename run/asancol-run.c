@@ -191,6 +191,8 @@ static enum report_answer conclude(const struct options *options, const struct s
     enum report_answer answer = is_incomplete ? ANSWER_INCOMPLETE : ANSWER_CLEAN;
     progress_erase();
     if (options->verbose) {
+        for (size_t i = 0; i < options->asan_taken.count; i++)
+            say("asancol: %s", options->asan_taken.items[i]);
         lines_say_complete();
         unchecked_say_all();
     }
@@ -322,7 +324,8 @@ int main(int count, char **argv)
     (void)count;
     fill_standard();
     struct options options = options_read(argv);
-    verdict_begin(options.leaks == LEAKS_YES, !options.no_mismatches);
+    verdict_begin(options.leaks == LEAKS_YES, !options.no_mismatches && !options.allows_mismatches,
+                  !options.allows_returns);
     if (options.are_files) {
         checkers_begin(&options);
         return check_files(&options);
@@ -344,6 +347,8 @@ int main(int count, char **argv)
         .lost = nested.lost,
         .notes = lowered_lines(&options, true),
     };
+    for (size_t i = 0; i < options.asan_notes.count; i++)
+        strings_add(&end.notes, options.asan_notes.items[i]);
     end.troubles = troubles_of(&end);
     bool is_incomplete = is_cut_short(&sum, &end);
     bool is_error = options.unchecked == UNCHECKED_ERROR && unchecked_count() > 0;

@@ -24,7 +24,7 @@ static void set_environment(const struct options *options, const char *hub)
     unsetenv("ASANCOL_TRACE");
     unsetenv("ASANCOL_SOCKET");
     unsetenv("ASANCOL_STOP"); /* a debugger is run by itself */
-    setenv("ASANCOL_LEAKS", options->leaks != LEAKS_NO ? "1" : "0", 1);
+    setenv("ASANCOL_LEAKS", options->demands_leaks ? "2" : options->leaks != LEAKS_NO ? "1" : "0", 1);
     if (options->quarantine != NULL)
         setenv("ASANCOL_QUARANTINE", options->quarantine, 1);
     if (options->no_mismatches)
@@ -58,7 +58,8 @@ static void add_setting(const char *entry)
 static void note_settings(char *const *environment)
 {
     for (; *environment != NULL; environment++)
-        if (begins_with(*environment, "ASANCOL_"))
+        if (begins_with(*environment, "ASANCOL_") || begins_with(*environment, "ASAN_OPTIONS=")
+            || begins_with(*environment, "LSAN_OPTIONS="))
             add_setting(*environment);
 }
 

@@ -29,7 +29,7 @@ static bool has_held_less(const struct outcome *joined, uint64_t bound)
 static void describe(char *text, size_t room, const struct outcome *joined, const struct options *options)
 {
     const char *halt = getenv("ASANCOL_HALT");
-    bool may_halt = halt != NULL && *halt != 0 && strcmp(halt, "0") != 0;
+    bool may_halt = options->may_halt || (halt != NULL && *halt != 0 && strcmp(halt, "0") != 0);
     text[0] = 0;
     if (has_held_less(joined, options->held))
         snprintf(text, room,

@@ -14,6 +14,7 @@
 #include "common/array.h"
 #include "common/distance.h"
 #include "common/format.h"
+#include "asan.h"
 #include "names.h"
 #include "option_table.h"
 #include "preload.h"
@@ -54,6 +55,9 @@ struct option {
 #define AT(field) offsetof(struct options, field)
 
 static const struct option table[] = {OPTION_ROWS};
+
+/* Whether the command line has given them. */
+static bool is_given[COUNT(table)];
 
 /* The option whose name is nearest, or null if none is near. */
 static const char *nearest(const char *name, size_t length)
@@ -340,6 +344,14 @@ static void take_value(struct options *options, const struct option *option, con
     }
 }
 
+/* One of two names of an option stands for both. */
+static void note_given(const struct option *option)
+{
+    for (size_t i = 0; i < COUNT(table); i++)
+        is_given[i] |= option == &table[i] || (option->action <= SET_FOLDER && option->action == table[i].action
+                                               && option->offset == table[i].offset);
+}
+
 /* Takes the option that begins at this word, and answers the word after it. */
 static char **take(struct options *options, char **argv)
 {
@@ -359,7 +371,21 @@ static char **take(struct options *options, char **argv)
     if (value == NULL || (equals == NULL && strcmp(value, "--") == 0))
         fail(OWN_FAILURE, dashed, "it needs a value");
     take_value(options, option, dashed, value);
+    note_given(option);
     return argv;
+}
+
+/* Of what may be repeated, each counts. */
+bool options_give(struct options *options, const char *name, const char *value)
+{
+    char *dashed;
+    if (asprintf(&dashed, "--%s", name) < 0)
+        must(NULL);
+    const struct option *option = find(dashed, strlen(dashed));
+    if (is_given[option - table] && option->action != PASS_INPUT)
+        return false;
+    take_value(options, option, dashed, value);
+    return true;
 }
 
 /* What the recorder holds back, the checker has to hold too. A value that the recorder refuses is left to it. */
@@ -387,8 +413,11 @@ struct options options_read(char **argv)
     if (*argv == NULL)
         fail(OWN_FAILURE, "there is no command", "asancol-run --help says how to use it");
     options.command = argv;
+    options.demands_leaks = options.leaks == LEAKS_YES;
     if (options.are_files)
         unsetenv("ASANCOL_QUARANTINE"); /* it says nothing of what was recorded before */
+    else
+        asan_take(&options);
     follow_recorder(&options);
     if (options.preloads)
         options.preloaded = preload_value();

@@ -32,6 +32,10 @@ struct options {
     bool has_output;        /* a file is wanted that asancol-report writes */
     bool has_rules;         /* it has to read a file of what counts */
     bool are_files;         /* the arguments of the command are traces */
+    /* What ASAN_OPTIONS and LSAN_OPTIONS ask of processes, and lines about them: for the summary, and for --verbose. */
+    bool may_halt, allows_mismatches, allows_returns;
+    struct strings asan_notes, asan_taken;
+    bool demands_leaks; /* --leaks=yes was given: that wins */
     struct strings check;   /* for asancol check */
     struct strings report;  /* for asancol-report, */
     int outputs[16];        /* and descriptors that it gets under their numbers: each output is at most one */
@@ -42,5 +46,7 @@ struct options {
 /* Prints the help or the version and ends with status 0, if this is what the options ask for. Fails if one of them is
    wrong: nothing has been started then. */
 struct options options_read(char **argv);
+/* Gives an option that takes a value this one, as the command line would. False: that has given it already. */
+bool options_give(struct options *options, const char *name, const char *value);
 
 #endif

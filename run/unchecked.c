@@ -41,7 +41,8 @@ static void add(struct names *names, const char *name)
     names->names[names->count++] = must(strdup(name));
 }
 
-/* A line: a name, or a library of the system after a slash, or how many more there are after a plus sign. */
+/* A line: a name, or a library of the system after a slash, or how many more there are after a plus sign. A suppression
+   of the program, after an exclamation mark, is for asancol-report. */
 static void take_line(char *line)
 {
     for (char *at = line; *at != 0; at++)
@@ -51,7 +52,7 @@ static void take_line(char *line)
         unchecked.own.more += strtoull(line + 1, NULL, 10) % INT_MAX;
     else if (line[0] == '/' && line[1] != 0)
         add(&unchecked.system, line + 1);
-    else if (line[0] != 0)
+    else if (line[0] != '!' && line[0] != 0)
         add(&unchecked.own, line);
 }
 

@@ -271,10 +271,11 @@ static bool was_ended_by_others(const struct segment *segment)
 static bool leaks_count;
 static uint64_t not_wanted; /* enum side_skipped */
 
-void verdict_begin(bool counts_leaks, bool wants_mismatches)
+void verdict_begin(bool counts_leaks, bool wants_mismatches, bool wants_returns)
 {
     leaks_count = counts_leaks;
-    not_wanted = (uint64_t)(counts_leaks ? 0 : SKIPPED_LEAKS) | (wants_mismatches ? 0 : SKIPPED_FAMILIES);
+    not_wanted = (uint64_t)(counts_leaks ? 0 : SKIPPED_LEAKS) | (wants_mismatches ? 0 : SKIPPED_FAMILIES)
+                 | (wants_returns ? 0 : SKIPPED_RETURNS);
 }
 
 bool verdict_is_clean(const struct segment *segment)

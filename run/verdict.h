@@ -7,8 +7,8 @@
 #include "processes.h"
 
 /* Whether leaks are findings as any other, and are not only summed up; and whether a process that does not look for
-   mismatches of functions that allocate and free has to be named. */
-void verdict_begin(bool counts_leaks, bool wants_mismatches);
+   mismatches of functions that allocate and free, or for uses after return, has to be named. */
+void verdict_begin(bool counts_leaks, bool wants_mismatches, bool wants_returns);
 /* Of one with a side memory: whether nothing bad stands there that a report would show; and whether it has ended by an
    exit or an exec. */
 bool verdict_is_clean(const struct segment *segment);

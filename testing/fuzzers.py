@@ -40,6 +40,7 @@ class Target(NamedTuple):
 ENVIRONMENT = [
     b"ASANCOL_TRACE=a/%%b.%p.trace\0ASANCOL_LOG=/tmp/%p\0ASANCOL_LIMIT=100\0ASANCOL_LIMITS=5\0ASANCOL_WHERE=1",
     b"ASANCOL_HUB=/run/x/hub\0ASANCOL_HALT=2\0ASANCOL_STOP=1\0ASANCOL_PATIENCE=0",
+    b"ASAN_OPTIONS=halt_on_error=1:quarantine_size_mb=64,x='a b':y\0LSAN_OPTIONS=detect_leaks=no\0ASANCOL_LEAKS=2",
 ]
 FORMATS = [b"\0%d %-10s %5.2f %ls %lc %n %%", b"\0%*.*s|%Lf|%hhd|%#x|%m", b"\5%d %s %[a-z] %10c %ms %n",
            b"\7%*d %ls %l[^]] %as"]
@@ -53,7 +54,8 @@ ENDS = [b"closed events 2 offset 36 reports 1", b"no-memory checked 5 reports 1"
         b"malformed code events 1 offset 20 reports 0", b"no-close events 1 offset 20 reports 0"]
 
 TARGETS = [
-    Target("recorder: settings", [f"{OURS}/settings.c", f"{RECORDER}/process/settings.c"], ENVIRONMENT,
+    Target("recorder: settings", [f"{OURS}/settings.c", *(f"{RECORDER}/process/{it}.c" for it in ("settings", "asan_options"))],
+           ENVIRONMENT,
            [b"ASANCOL_", b"TRACE=", b"QUARANTINE=", b"SOCKET=", b"HUB=", b"%p", b"%%"]),
     Target("recorder: formats", [f"{OURS}/formats.c"], FORMATS, [b"%", b"*", b"hh", b"ll", b"%[", b"^]", b"%1$d"]),
     Target("recorder: frames", [f"{OURS}/frames.c", f"{RECORDER}/stacks/frames.c"],
@@ -75,7 +77,8 @@ TARGETS = [
            [SIDE + REPORT + b"p0 end " + it + b"\n" for it in ENDS],
            [b"p0 end ", b"events ", b" reports ", b" checked "]),
     Target("asancol-run: arguments", [f"{THEIRS}/arguments.c", f"{THEIRS}/ends.c", f"{RUN}/options.c", f"{RUN}/names.c",
-                                   f"{RUN}/preload.c", f"{COMMON}/path.c", f"{COMMON}/strings.c"],
+                                   f"{RUN}/preload.c", f"{RUN}/asan.c", f"{COMMON}/path.c",
+                                   f"{COMMON}/strings.c"],
            RUNS, [b"--wait=", b"--at-least=", b"%q{", b"}", b"--quarantine=", b"--html="],
            ["-Dexit=fuzz_exit", "-include", f"{THEIRS}/ends.h", '-DRELEASE="1"']),
 ]

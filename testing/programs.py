@@ -31,7 +31,7 @@ SOON = 20
 def environment(*unset: str, **settings: str) -> Dict[str, str]:
     """Returns the environment without what speaks to asancol, or begins with another of these words, and with these
     settings."""
-    without = ("ASANCOL", "NO_COLOR", *unset)
+    without = ("ASANCOL", "ASAN_OPTIONS", "LSAN_OPTIONS", "NO_COLOR", *unset)
     kept = {name: value for name, value in os.environ.items() if not name.startswith(without)}
     return {**kept, "LC_ALL": "C", **settings}
 

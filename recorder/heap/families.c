@@ -13,11 +13,12 @@
 #include "stream/findings.h"
 #include "stream/maps.h"
 
-static _Atomic bool are_checked;
+static _Atomic bool are_checked, are_sizes_checked;
 
-void heap_check_families(bool is_on)
+void heap_check_families(bool families, bool sizes)
 {
-    atomic_store_explicit(&are_checked, is_on, memory_order_relaxed);
+    atomic_store_explicit(&are_checked, families, memory_order_relaxed);
+    atomic_store_explicit(&are_sizes_checked, sizes, memory_order_relaxed);
 }
 
 /* A plain program, which has this preloaded, may have the library of C++ inside. */
@@ -121,7 +122,9 @@ static size_t alignment_or_none(size_t alignment)
 static enum finding_kind kind_of(const struct block *block, const struct release *release)
 {
     if (block->family != release->family)
-        return FINDING_FAMILY;
+        return atomic_load_explicit(&are_checked, memory_order_relaxed) ? FINDING_FAMILY : FINDING_NONE;
+    if (!atomic_load_explicit(&are_sizes_checked, memory_order_relaxed))
+        return FINDING_NONE;
     if (alignment_or_none(alignment_of(block)) != alignment_or_none(release->alignment))
         return FINDING_OTHER_ALIGNMENT;
     return has_other_size(block, release) ? FINDING_SIZE : FINDING_NONE;
@@ -134,7 +137,7 @@ static call_site allocated_at(const struct block *block)
 
 bool families_differ(const struct block *block, const struct release *release)
 {
-    if (!atomic_load_explicit(&are_checked, memory_order_relaxed) || arena.call_sites == NULL)
+    if (arena.call_sites == NULL)
         return false;
     return kind_of(block, release) != FINDING_NONE
            && is_known((enum family)block->family, call_site_address(allocated_at(block)))

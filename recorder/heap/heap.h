@@ -54,8 +54,8 @@ void heap_operator_begins(uintptr_t caller, enum family family, size_t alignment
 void heap_operator_ends(void) OWN_NAME(heap_operator_ends);
 /* Whether the next malloc of this thread is that of an operator of a library's. */
 bool heap_is_called_by_operator(void);
-/* Whether a free of another family, or a delete with another size or alignment, is noted. */
-void heap_check_families(bool is_on);
+/* Whether a free of another family is noted; and a delete with another size or alignment. */
+void heap_check_families(bool families, bool sizes);
 
 /* The call sites of mallocs and frees are noted from now on. */
 void heap_keep_call_sites(void);

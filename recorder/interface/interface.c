@@ -271,7 +271,7 @@ INTERFACE int __sanitizer_acquire_crash_state(void)
     return is_first_crash();
 }
 
-/* What a program may define itself. */
+/* What a program may define itself. asan_options.c calls those of them that answer a text. */
 
 INTERFACE void __asan_on_error(void)
 {
@@ -285,6 +285,7 @@ INTERFACE void __asan_on_error(void)
 
 NO_TEXT(__asan_default_options)
 NO_TEXT(__lsan_default_options)
+NO_TEXT(__asan_default_suppressions)
 NO_TEXT(__lsan_default_suppressions)
 
 INTERFACE int __lsan_is_turned_off(void)

@@ -121,7 +121,7 @@ static bool begin(uint64_t most_held)
     process.settings.is_full |= atomic_load(&is_to_be_full);
     if (process.settings.with_side)
         heap_keep_call_sites();
-    heap_check_families(process.settings.mismatches);
+    heap_check_families(process.settings.mismatches, process.settings.other_sizes);
     if (!open_stream())
         return false;
     heap_set_bound(process.settings.quarantine);

@@ -4,6 +4,7 @@
 #include <limits.h>
 #include <string.h>
 
+#include "process/asan_options.h"
 #include "process/beginning.h"
 #include "base/digits.h"
 #include "base/platform.h"
@@ -219,6 +220,26 @@ static void read_outputs(struct settings *settings)
         settings->trace = traces_beside(settings->hub, &beside);
 }
 
+/* What AddressSanitizer has options for too. A variable of ASANCOL comes first, except that a process can turn leaks off
+   for itself, unless --leaks=yes was given. */
+static void read_options_of_asan(struct settings *settings)
+{
+    enum { LEAKS_IN_ANY_CASE = 2 };
+    asan_options_read(value_of("ASAN_OPTIONS"), value_of("LSAN_OPTIONS"));
+    uint64_t held = asan_options_hold(MAX_QUARANTINE, QUARANTINE_BOUND);
+    uint64_t halt = asan_options_say(ASAN_halt_on_error, false) ? HALT : HALT_NEVER;
+    uint64_t returns = asan_options_say(ASAN_detect_stack_use_after_return, true);
+    uint64_t leaks = number_of("ASANCOL_LEAKS", 0, LEAKS_IN_ANY_CASE, 0);
+    bool mismatches = number_of("ASANCOL_MISMATCHES", 0, 1, 1) == 1;
+    settings->quarantine = number_of("ASANCOL_QUARANTINE", 0, MAX_QUARANTINE, held);
+    settings->halt = (enum halt)number_of("ASANCOL_HALT", HALT_NEVER, HALT_AND_RECORD, halt);
+    settings->use_after_return = number_of("ASANCOL_USE_AFTER_RETURN", 0, 1, returns) == 1;
+    settings->with_leaks = settings->with_side
+                           && (leaks == LEAKS_IN_ANY_CASE || (leaks == 1 && asan_options_say(ASAN_detect_leaks, true)));
+    settings->mismatches = mismatches && asan_options_say(ASAN_alloc_dealloc_mismatch, true);
+    settings->other_sizes = mismatches && asan_options_say(ASAN_new_delete_type_mismatch, true);
+}
+
 void settings_read(struct settings *settings)
 {
     static AS_TABLE struct entry log;
@@ -229,13 +250,9 @@ void settings_read(struct settings *settings)
     settings->stop = number_of("ASANCOL_STOP", 1, EVENT_LIMIT, 0);
     settings->limit = number_of("ASANCOL_LIMIT", 1, EVENT_LIMIT, EVENT_LIMIT);
     settings->segments = number_of("ASANCOL_SEGMENTS", 0, MAX_SEGMENTS_KEPT, ALL_SEGMENTS);
-    settings->quarantine = number_of("ASANCOL_QUARANTINE", 0, MAX_QUARANTINE, QUARANTINE_BOUND);
     settings->patience_ms = (int)number_of("ASANCOL_PATIENCE", 0, 86400, 60) * 1000;
-    settings->use_after_return = number_of("ASANCOL_USE_AFTER_RETURN", 0, 1, 1) == 1;
     settings->with_side = number_of("ASANCOL_WHERE", 0, 1, 0) == 1 || settings->hub != NULL;
     settings->is_full = number_of("ASANCOL_FULL", 0, 1, settings->hub == NULL) == 1;
-    settings->mismatches = number_of("ASANCOL_MISMATCHES", 0, 1, 1) == 1;
-    settings->with_leaks = number_of("ASANCOL_LEAKS", 0, 1, 0) == 1 && settings->with_side;
-    settings->halt = (enum halt)number_of("ASANCOL_HALT", HALT_NEVER, HALT_AND_RECORD, HALT_NEVER);
+    read_options_of_asan(settings);
     settings->checks_libraries = number_of("ASANCOL_LIBRARIES", 0, 1, 1) == 1;
 }

@@ -26,7 +26,8 @@ struct settings {
     bool with_side; /* what stands beside a trace is wanted too, */
     bool with_leaks; /* and with it what leaks */
     bool is_full; /* each malloc and free is recorded */
-    bool mismatches; /* a free by another family of functions, or with another size, is noted */
+    bool mismatches; /* a free by another family of functions is noted, */
+    bool other_sizes; /* and one with another size or alignment */
     enum halt halt;
     bool checks_libraries; /* what plain libraries call, too */
     const char *passed_over; /* the hub that the environment names beside a trace, or null */

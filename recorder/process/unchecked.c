@@ -13,6 +13,7 @@
 #include "common/text.h"
 #include "heap/blocks.h"
 #include "heap/heap.h"
+#include "process/asan_options.h"
 #include "process/link_note.h"
 #include "process/process.h"
 #include "base/memory.h"
@@ -280,6 +281,8 @@ void unchecked_list(char *lines, const char *maps)
     unsigned libraries = 0;
     bool is_added = true;
     list.more = atomic_load(&more_apart);
+    for (const char *at = asan_options_lines(), *line_end; (line_end = strchr(at, '\n')) != NULL; at = line_end + 1)
+        add(&list, "", at, (size_t)(line_end - at));
     for (const char *at = maps; maps_take_line(at, &line); at = line.next) {
         if (!line.has_file)
             continue;

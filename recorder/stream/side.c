@@ -200,7 +200,7 @@ void side_begin(unsigned char *bytes, uint64_t segment, const struct settings *s
     atomic_store_explicit(needed_in(side), 1, memory_order_relaxed);
     memcpy(side->header, SIDE_HEADER, sizeof side->header);
     atomic_store(&current, side);
-    side_note_skipped(atomic_load(&skipped) | (settings->mismatches ? 0 : SKIPPED_FAMILIES)
+    side_note_skipped(atomic_load(&skipped) | (settings->mismatches && settings->other_sizes ? 0 : SKIPPED_FAMILIES)
                       | (settings->with_leaks ? 0 : SKIPPED_LEAKS));
     put_used_again();
     side_note_first_name();

@@ -82,6 +82,7 @@ class Gatherer:
     def __init__(self, results: Results, run: int, modules: Modules, symbols: Symbols, sources: Sources,
                  leaks: str = YES, counts: Optional[Callable[[Finding], bool]] = None) -> None:
         self.results = results
+        self.take_rules: Callable[[List[str]], None] = lambda lines: None  # the suppressions of a program
         self.leaks = leaks  # what becomes of them
         self.counts = counts  # which leaks count that are summed up; None: all
         self.sum = Sum()
@@ -98,6 +99,7 @@ class Gatherer:
 
     def take(self, process: int, pid: int, verdicts: int, side: Optional[Side], segment: int = 1) -> None:
         """Takes in the lines of a process, or of a segment of it, behind the descriptor `verdicts`."""
+        self.take_rules(side.suppressions() if side else [])
         lines = Verdicts(verdicts, side.look_up if side else lambda event: (0, False))
         for group in lines.groups.values():
             fault = side.fault(group.fault) if side and group.fault else None

@@ -87,7 +87,7 @@ class Report:
         """Reads what does not count. In a run that goes on, a mistake there must not lose its reports: what is wrong is
         said at once, and after the summary what was not used."""
         for path in self.options.suppressions:
-            self.read_rule(self.suppressions.read, path)
+            self.read_rule(self.read_suppressions, path)
         if self.options.value("--baseline"):
             self.read_rule(self.read_baseline, self.options.value("--baseline"))
 
@@ -99,10 +99,20 @@ class Report:
                 raise
             text = f"{path}: {reason(error)}" if isinstance(error, OSError) else str(error)
             self.fail(text)
-            text += "; the rest of the file was not used" if isinstance(error, Refused) else "; it was not used"
-            self.results.notes[text] = None
-            unused = f"the rest of {path}" if isinstance(error, Refused) else path
-            self.text.short[text] = f"{unused} was not used"
+            self.note_unused(f"{text}; it was not used", path)
+
+    def note_unused(self, text: str, what: str) -> None:
+        """Notes what was not used. What is wrong with it was said: the text says no more than that."""
+        self.results.notes[text] = None
+        self.text.short[text] = f"{what} was not used"
+
+    def read_suppressions(self, path: str) -> None:
+        """Reads a file of suppressions. In a run that goes on, what can be read of it is used."""
+        for wrong in self.suppressions.read(path):
+            if not self.options.switches["--run"]:
+                raise Refused(str(wrong))
+            self.fail(wrong)
+            self.note_unused(f"{wrong}; it was not used", wrong.place)
 
     def read_baseline(self, path: str) -> None:
         from .baseline import Baseline
@@ -149,8 +159,18 @@ class Report:
 
     def new_gatherer(self, run: int) -> Gatherer:
         has_rules = self.suppressions.rules or self.baseline
-        return Gatherer(self.results, run, self.modules, self.symbols, self.sources, self.options.value("--leaks"),
-                        self.counts if has_rules else None)
+        gatherer = Gatherer(self.results, run, self.modules, self.symbols, self.sources, self.options.value("--leaks"),
+                            self.counts if has_rules else None)
+        gatherer.take_rules = lambda lines: self.take_rules(gatherer, lines)
+        return gatherer
+
+    def take_rules(self, gatherer: Gatherer, lines: List[str]) -> None:
+        """Takes the suppressions that a program has given: they hold for all processes."""
+        for line in lines:
+            wrong = self.suppressions.take(line)
+            if wrong:
+                self.results.notes[f"{wrong}; it was not used"] = None
+            gatherer.counts = self.counts
 
     def counts(self, finding: Finding) -> bool:
         """Returns whether a finding counts that is none of the results."""

@@ -232,6 +232,13 @@ class Side:
 
     def unchecked(self) -> List[str]:
         """Returns what was not checked: names, libraries of the system after a slash, `+N` for N more."""
+        return [it for it in self.unchecked_lines() if not it.startswith("!")]
+
+    def suppressions(self) -> List[str]:
+        """Returns the suppressions that the program has by a function of its own."""
+        return [it[1:] for it in self.unchecked_lines() if it.startswith("!")]
+
+    def unchecked_lines(self) -> List[str]:
         text = read_at(self.descriptor, UNCHECKED_AT, UNCHECKED_ROOM) if self.is_good else b""
         return [os.fsdecode(line) for line in text.split(b"\0")[0].split(b"\n") if line]
 

@@ -4,20 +4,23 @@ names: a line for a whole library is not meant for them."""
 from __future__ import annotations
 
 import re
-from typing import Iterable, List, Tuple, Union
+from typing import Iterable, List, NamedTuple, Optional, Set, Tuple, Union
 
 from .class_names import CLASSES
 from .crashes import CRASH_CLASSES
-from .errors import Refused
 from .findings import Finding, Frame
 from .patterns import path_pattern, pattern, whole_pattern
 from .words import printable, stable_path, UNPRINTABLE
 
 # What a pattern is compared with.
 FUNCTION, SOURCE, OBJECT = "fun", "src", "obj"
-# Lines of the sanitizers for calls of the C library: by the library that calls it, and by any frame.
+# Lines of the sanitizers for calls of the C library: by the library that calls it, by any frame, and by what is called.
 CALLED_FROM, VIA_OBJECT, VIA_FUNCTION = "called_from_lib", "interceptor_via_lib", "interceptor_via_fun"
-OF_CALLS = (CALLED_FROM, VIA_OBJECT, VIA_FUNCTION)
+CALL = "interceptor_name"
+OF_CALLS = (CALLED_FROM, VIA_OBJECT, VIA_FUNCTION, CALL)
+# AddressSanitizer's names for a class; and for one that nobody looks for here, which matches nothing.
+CLASS_NAMES = {"alloc_dealloc_mismatch": "alloc-dealloc-mismatch"}
+NOT_LOOKED_FOR = "odr_violation"
 ANY_CLASS = "*"
 KNOWN_CLASSES = (*CLASSES, *CRASH_CLASSES)
 # A line that names the place of a report, frame by frame.
@@ -31,13 +34,15 @@ class Rule:
 
     def __init__(self, line: str) -> None:
         self.line = line
-        self.kind, colon, text = line.partition(":")
-        if not colon or self.kind not in (*KNOWN_CLASSES, ANY_CLASS, FUNCTION, SOURCE, OBJECT, *OF_CALLS):
+        kind, colon, text = line.partition(":")
+        self.kind = CLASS_NAMES.get(kind, kind)
+        kinds = (*KNOWN_CLASSES, ANY_CLASS, FUNCTION, SOURCE, OBJECT, *OF_CALLS, NOT_LOOKED_FOR)
+        if not colon or self.kind not in kinds:
             raise ValueError(f"not {FORMS}")
         if not text:
             raise ValueError("the pattern is empty")
         self.search = pattern(text).search
-        self.is_used = False
+        self.is_used = self.kind == NOT_LOOKED_FOR
 
     def words(self, frame: Frame) -> Tuple[str, ...]:
         if self.kind in (FUNCTION, VIA_FUNCTION):
@@ -49,6 +54,10 @@ class Rule:
         return (frame.function, frame.file, frame.module)
 
     def matches(self, finding: Finding) -> bool:
+        if self.kind == NOT_LOOKED_FOR:
+            return False
+        if self.kind == CALL:
+            return bool(finding.call and self.search(finding.call))
         if self.kind not in finding.classes and (self.kind in KNOWN_CLASSES or finding.class_name in CRASH_CLASSES):
             return False
         return any(word and self.search(word) for frame in self.frames(finding) for word in self.words(frame))
@@ -111,14 +120,26 @@ def frame_text(word: str) -> str:
 PRINTED = "suppression:"
 
 
+class Wrong(NamedTuple):
+    """A line that can't be read: its place, and what is wrong."""
+
+    place: str
+    text: str
+
+    def __str__(self) -> str:
+        return f"{self.place}: {self.text}"
+
+
 class Suppressions:
-    """All rules of some files."""
+    """All rules of some files, and of programs."""
 
     def __init__(self) -> None:
         self.rules: List[Union[Rule, PlaceRule]] = []
+        self.of_programs: Set[str] = set()  # their lines
 
-    def read(self, path: str) -> None:
-        """Reads a file. OSError, or Refused if a line is of another form."""
+    def read(self, path: str) -> List[Wrong]:
+        """Reads a file, and returns what can't be read. The other lines are used."""
+        wrong: List[Wrong] = []
         with open(path, encoding="utf-8", errors="surrogateescape") as file:
             for number, line in enumerate(file, 1):
                 text = line.strip().removeprefix(PRINTED).lstrip()
@@ -127,7 +148,21 @@ class Suppressions:
                 try:
                     self.rules.append(rule_of(text))
                 except ValueError as error:
-                    raise Refused(f"{path}:{number}: {printable(text)}: {error}") from None
+                    wrong.append(Wrong(f"{path}:{number}", f"{printable(text)}: {error}"))
+        return wrong
+
+    def take(self, line: str) -> Optional[Wrong]:
+        """Takes a line that a program has given, which need not match anything; and returns it if it can't be read."""
+        if line in self.of_programs:
+            return None
+        self.of_programs.add(line)
+        try:
+            rule = rule_of(line.strip())
+        except ValueError as error:
+            return Wrong("a suppression of the program", f"{printable(line)}: {error}")
+        rule.is_used = True
+        self.rules.append(rule)
+        return None
 
     def apply(self, findings: Iterable[Finding]) -> None:
         for finding in findings:

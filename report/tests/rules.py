@@ -72,6 +72,10 @@ def suppressions_of_calls(folder: str) -> None:
         ("interceptor_via_fun:^copy_text$", 3),
         ("interceptor_via_fun:^main$", 3),
         ("interceptor_via_fun:^drop$", 0),
+        ("interceptor_name:^strcpy$", 3),
+        ("interceptor_name:str*", 3),
+        ("interceptor_name:strlen", 0),
+        ("alloc_dealloc_mismatch:main", 0),
     ):
         with open(f"{folder}/rules", "w", encoding="utf-8") as file:
             file.write(rule + "\n")
@@ -101,13 +105,14 @@ def baseline(folder: str) -> None:
 
 @report_test
 def run_has_bad_rules(folder: str) -> None:
-    """What is wrong there is said at once, and after the summary what was not used. What can be used is."""
+    """What is wrong there is said at once, and after the summary what was not used. What can be used is, also of the same
+    file."""
     feed = Feed(folder, "--json", "known.jsonl")
     feed.begin()
     feed.process(0, FREED + END)
     feed.end()
     with open(f"{folder}/first", "w", encoding="utf-8") as file:
-        file.write("# one\ndouble-free:x\nnon\x1bsense\nheap-use-after-free:*\n")
+        file.write("# one\ndouble-free:x\nnon\x1bsense\nheap-use-after-free:not there\n")
     with open(f"{folder}/second", "w", encoding="utf-8") as file:
         file.write("bad-free:y\n")
     feed = Feed(folder, "--suppressions", "first", "--suppressions", "none", "--suppressions", "second",
@@ -124,8 +129,8 @@ def run_has_bad_rules(folder: str) -> None:
     ]
     expect(ran.err, "".join(f"asancol-report: {line}\n" for line in lines), "at once")
     summary = ran.out.partition("asancol: 1 report at 1 place, 1 place known from the baseline")[2]
-    expect_in(summary, "\nasancol: the rest of first was not used\n", "\nasancol: none was not used\n",
-              "nothing: double-free:x", "nothing: bad-free:y")
+    expect_in(summary, "\nasancol: first:3 was not used\n", "\nasancol: none was not used\n",
+              "nothing: double-free:x", "nothing: heap-use-after-free:not there", "nothing: bad-free:y")
     expect_not_in(ran.out, *lines)
 
 
@@ -145,3 +150,14 @@ def run_has_a_bad_baseline(folder: str) -> None:
     with open(f"{folder}/out.jsonl", encoding="utf-8") as file:
         expect([it["text"] for it in map(json.loads, file) if it["type"] == "note"],
                [f"{line}; it was not used"], "the result")
+
+
+@report_test
+def suppressions_of_address_sanitizer(folder: str) -> None:
+    """All kinds of lines that it knows are read. What nobody looks for here is said of none."""
+    one_trace(folder)
+    report(folder, "--trace", "a.trace", "--json", "a.jsonl")
+    write_text(f"{folder}/rules", "# ours\nodr_violation:^table$\ninterceptor_name:use\nleak:main\nfun:dr*p\n")
+    ran = report(folder, "a.jsonl", "--suppressions", "rules")
+    expect_in(ran.out, "no reports, 4 suppressed;", "matched nothing: interceptor_name:use", "matched nothing: leak:main")
+    expect_not_in(ran.out, "odr_violation")

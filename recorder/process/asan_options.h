@@ -1,0 +1,21 @@
+/* What the options of AddressSanitizer say for this process: by ASAN_OPTIONS and LSAN_OPTIONS, and by functions that
+   the program may have. common/asan_options.def lists them. */
+#ifndef ASANCOL_PROCESS_ASAN_OPTIONS_H
+#define ASANCOL_PROCESS_ASAN_OPTIONS_H
+
+#include <stdbool.h>
+#include <stdint.h>
+
+#include "common/asan_options.h"
+
+/* Reads them, from these values of the variables, which may be null. The functions of the program are called. */
+void asan_options_read(const char *asan, const char *lsan);
+/* Whether an option is on; or else what holds otherwise. */
+bool asan_options_say(enum asan_option option, bool otherwise);
+/* How many bytes of freed blocks are held, at most as many; or else as many as hold otherwise. */
+uint64_t asan_options_hold(uint64_t most, uint64_t otherwise);
+/* Lines with an end each: what the program's functions say that has no effect here, and its suppressions, which come
+   after an exclamation mark. */
+const char *asan_options_lines(void);
+
+#endif

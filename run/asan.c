@@ -1,0 +1,207 @@
+#define _GNU_SOURCE
+#include "asan.h"
+
+#include <inttypes.h>
+#include <stdio.h>
+#include <stdlib.h>
+#include <string.h>
+#include <sys/stat.h>
+#include <unistd.h>
+
+#include "common/asan_options.h"
+#include "common/format.h"
+#include "say.h"
+
+/* What became of a word. */
+enum done { TAKEN, OVERRULED, WITHOUT_EFFECT, UNKNOWN, HARMLESS, DONE_COUNT };
+
+/* A line says no more of one variable than this. */
+enum { MAX_LIST = 1000 };
+
+static char *value_of(const struct asan_word *word)
+{
+    return must(strndup(word->value, word->value_length));
+}
+
+/* Whether the value is a number in this range. */
+static bool is_number_to(const struct asan_word *word, uint64_t most)
+{
+    uint64_t number;
+    return asan_number(word, &number) && number <= most;
+}
+
+static enum done give(struct options *options, const char *name, const char *value)
+{
+    return options_give(options, name, value) ? TAKEN : OVERRULED;
+}
+
+/* The name of a file in which each percent sign stands for itself. */
+static char *escaped(const char *name)
+{
+    char *text = must(malloc(2 * strlen(name) + 1)), *to = text;
+    for (; *name != 0; name++) {
+        if (*name == '%')
+            *to++ = '%';
+        *to++ = *name;
+    }
+    *to = 0;
+    return text;
+}
+
+static enum done take_suppressions(struct options *options, const char *path)
+{
+    struct stat seen;
+    if (*path == 0)
+        return HARMLESS;
+    if (stat(path, &seen) != 0 || S_ISDIR(seen.st_mode) || access(path, R_OK) != 0)
+        return WITHOUT_EFFECT;
+    return give(options, "suppressions", escaped(path));
+}
+
+static enum done take_prefix(struct options *options, const char *path)
+{
+    struct stat seen;
+    bool is_folder = stat(path, &seen) == 0 && S_ISDIR(seen.st_mode) && access(path, X_OK) == 0;
+    return is_folder ? give(options, "source-root", escaped(path)) : HARMLESS;
+}
+
+static enum done take_quarantine(struct options *options, const struct asan_word *word)
+{
+    char *text;
+    uint64_t bytes;
+    const char *own = getenv("ASANCOL_QUARANTINE");
+    if (asan_is_word(word, "-1"))
+        return HARMLESS;
+    if (!asan_quarantine(word, MAX_QUARANTINE, &bytes))
+        return WITHOUT_EFFECT;
+    if (own != NULL && *own != 0)
+        return OVERRULED;
+    if (asprintf(&text, "%" PRIu64, bytes) < 0)
+        must(NULL);
+    return give(options, "quarantine", text);
+}
+
+static enum done take_symbolizer(const char *path)
+{
+    if (*path == 0)
+        return HARMLESS;
+    if (getenv("ASANCOL_SYMBOLIZER") != NULL)
+        return OVERRULED;
+    setenv("ASANCOL_SYMBOLIZER", path, 1);
+    return TAKEN;
+}
+
+static enum done take_log(struct options *options, const char *path)
+{
+    if (*path == 0 || strcmp(path, "stderr") == 0)
+        return HARMLESS;
+    return strcmp(path, "stdout") == 0 ? give(options, "log-file", "/dev/stdout") : WITHOUT_EFFECT;
+}
+
+static enum done take_for_run(struct options *options, const struct asan_word *word)
+{
+    switch (word->option) {
+    case ASAN_exitcode:
+        return is_number_to(word, UINT8_MAX) ? give(options, "exitcode", value_of(word)) : WITHOUT_EFFECT;
+    case ASAN_detect_leaks:
+        if (asan_is_yes(word) || asan_is_no(word))
+            return give(options, "leaks", asan_is_yes(word) ? "yes" : "no");
+        return WITHOUT_EFFECT;
+    case ASAN_suppressions:
+        return take_suppressions(options, value_of(word));
+    case ASAN_quarantine_size_mb:
+    case ASAN_quarantine_size:
+        return take_quarantine(options, word);
+    case ASAN_external_symbolizer_path:
+        return take_symbolizer(value_of(word));
+    case ASAN_strip_path_prefix:
+        return take_prefix(options, value_of(word));
+    default:
+        return take_log(options, value_of(word));
+    }
+}
+
+/* The recorder takes it: here it counts what is not to be wondered at. */
+static enum done note_for_processes(struct options *options, const struct asan_word *word)
+{
+    if (!asan_is_yes(word) && !asan_is_no(word))
+        return WITHOUT_EFFECT;
+    if (word->option == ASAN_halt_on_error)
+        options->may_halt = asan_is_yes(word);
+    if (word->option == ASAN_alloc_dealloc_mismatch || word->option == ASAN_new_delete_type_mismatch)
+        options->allows_mismatches |= asan_is_no(word);
+    if (word->option == ASAN_detect_stack_use_after_return)
+        options->allows_returns = asan_is_no(word);
+    return TAKEN;
+}
+
+static enum done take_word(struct options *options, const struct asan_word *word)
+{
+    switch (word->fate) {
+    case ASAN_IS_RUN:
+        return take_for_run(options, word);
+    case ASAN_IS_PROCESS:
+        return note_for_processes(options, word);
+    case ASAN_IS_FIXED:
+        return word->is_fixed_value ? HARMLESS : WITHOUT_EFFECT;
+    case ASAN_IS_HARMLESS:
+        return HARMLESS;
+    default:
+        return UNKNOWN;
+    }
+}
+
+static void add_word(char **list, const struct asan_word *word)
+{
+    size_t length = *list != NULL ? strlen(*list) : 0;
+    char *more;
+    if (length > MAX_LIST)
+        return;
+    int shown = word->value_length < 200 ? (int)word->value_length : 200;
+    if (asprintf(&more, "%s%s%.*s%s%.*s", length > 0 ? *list : "", length > 0 ? ", " : "",
+                 word->name_length < 80 ? (int)word->name_length : 80, word->name, shown > 0 ? "=" : "", shown, word->value)
+        < 0)
+        must(NULL);
+    free(*list);
+    *list = more;
+}
+
+/* Adds "VARIABLE: FIRST: WORDS; SECOND: WORDS" of what there is. */
+static void add_line(struct strings *lines, const char *variable, const char *first, const char *of_first,
+                     const char *second, const char *of_second)
+{
+    char *line;
+    if (of_first == NULL && of_second == NULL)
+        return;
+    if (asprintf(&line, "%s: %s%s%s%s%s", variable, of_first != NULL ? first : "", of_first != NULL ? of_first : "",
+                 of_first != NULL && of_second != NULL ? "; " : "", of_second != NULL ? second : "",
+                 of_second != NULL ? of_second : "")
+        < 0)
+        must(NULL);
+    strings_add(lines, line);
+}
+
+static void take_variable(struct options *options, const char *variable)
+{
+    const char *at = getenv(variable);
+    char *lists[DONE_COUNT] = {NULL};
+    struct asan_word word;
+    while (at != NULL && asan_next(&at, &word))
+        if (word.name_length > 0)
+            add_word(&lists[take_word(options, &word)], &word);
+    add_line(&options->asan_notes, variable, "without effect here: ", lists[WITHOUT_EFFECT], "unknown: ", lists[UNKNOWN]);
+    add_line(&options->asan_taken, variable, "taken: ", lists[TAKEN], "the command line or an ASANCOL variable wins: ",
+             lists[OVERRULED]);
+    add_line(&options->asan_taken, variable, "no report depends on ", lists[HARMLESS], "", NULL);
+}
+
+void asan_take(struct options *options)
+{
+#ifndef __SANITIZE_ADDRESS__ /* else they are for this program itself */
+    take_variable(options, "ASAN_OPTIONS");
+    take_variable(options, "LSAN_OPTIONS");
+#else
+    (void)options;
+    (void)take_variable;
+#endif
+}

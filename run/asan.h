@@ -1,0 +1,11 @@
+/* ASAN_OPTIONS and LSAN_OPTIONS in our own environment: common/asan_options.def says what becomes of each option. What
+   the recorder takes it reads by itself, from the environment of each process. */
+#ifndef ASANCOL_RUN_ASAN_H
+#define ASANCOL_RUN_ASAN_H
+
+#include "options.h"
+
+/* Gives the options what the variables say, and notes for the verdict what has no effect. */
+void asan_take(struct options *options);
+
+#endif

@@ -1,0 +1,126 @@
+"""What a user of AddressSanitizer has already: ASAN_OPTIONS, LSAN_OPTIONS, and functions of the program."""
+
+import re
+import subprocess
+
+from leaks import PROGRAM, make
+from support import REPORT, SANITIZE, TOP, Suite, expect, expect_ran, leave_out, write_text
+from testing.programs import call, compilers_there
+
+PAST = "heap-buffer-overflow: store of 1 byte"
+NOTE = "asancol: ASAN_OPTIONS: without effect here: log_path=/tmp/x, strict_string_checks=1; unknown: halt_on_eror=1, x\n"
+
+
+def check_statuses(suite: Suite, folder: str) -> None:
+    """The command line wins over the variables, and a variable of asancol too."""
+    def ran(status: int, *texts: str, option: str = "--wait=5", way: str = "past", **settings: str) -> None:
+        expect_ran(suite.run(option, "--", suite.program, way, ASANCOL_REPORT=REPORT, **settings), status, *texts)
+    ran(42, PAST, ASAN_OPTIONS="exitcode=42")
+    ran(7, PAST, option="--exitcode=7", ASAN_OPTIONS="exitcode=42")
+    ran(7, PAST, option="--error-exitcode=7", ASAN_OPTIONS="exitcode=42")
+    ran(43, PAST, ASAN_OPTIONS="exitcode=42", LSAN_OPTIONS="verbosity=1:exitcode='43'")
+    ran(99, "ASAN_OPTIONS: without effect here: exitcode=300\n", ASAN_OPTIONS="exitcode=300")
+    ran(99, PAST, "ended by SIGABRT", ASAN_OPTIONS="halt_on_error=1")
+    ran(99, PAST, "all complete\n", ASAN_OPTIONS="halt_on_error=1", ASANCOL_HALT="0")
+    ran(99, "1048576 bytes of freed memory are held back (--quarantine)", option="--full",
+        ASAN_OPTIONS="quarantine_size_mb=1")
+    ran(99, "1024 bytes of freed memory are held back (ASANCOL_QUARANTINE)", option="--full",
+        ASAN_OPTIONS="quarantine_size_mb=1", ASANCOL_QUARANTINE="1024")
+
+
+def check_named(suite: Suite, folder: str) -> None:
+    """What has no effect and could change a result is said once, and the rest with --verbose."""
+    words = "halt_on_eror=1,log_path=/tmp/x symbolize=0:strict_string_checks=1:detect_odr_violation=0:x:exitcode=3"
+    ran = suite.run("--", suite.program, "sound", ASAN_OPTIONS=words, ASANCOL_REPORT=REPORT)
+    expect_ran(ran, 0, NOTE, absent=["symbolize"])
+    ran = suite.run("-v", "--exitcode=4", "--", "sh", "-c", f"{suite.program} past; {suite.program} past",
+                    ASAN_OPTIONS=words, ASANCOL_REPORT=REPORT)
+    expect_ran(ran, 4, NOTE, "asancol: ASAN_OPTIONS: the command line or an ASANCOL variable wins: exitcode=3\n",
+               "asancol: ASAN_OPTIONS: no report depends on symbolize=0, detect_odr_violation=0\n")
+    expect(ran.err.count("strict_string_checks"), 1, "once")
+    expect_ran(suite.run("-q", "--", suite.program, "sound", ASAN_OPTIONS=words), 0, absent=["asancol"])
+
+
+def check_leaks(suite: Suite, folder: str) -> None:
+    program = make(folder, "gcc")
+
+    def ran(status: int, *texts: str, option: str = "--wait=5", before: str = "", **settings: str) -> None:
+        argv = [option, "--", "sh", "-c", f"{before} {program}"]
+        absent = ["asancol: leaks: "] if "leaks=0" in str(settings) else []
+        expect_ran(suite.run(*argv, ASANCOL_REPORT=REPORT, **settings), status, *texts, absent=absent)
+    ran(0, "asancol: leaks: 300 bytes")
+    ran(99, "Direct leak of 300 byte(s)", ASAN_OPTIONS="detect_leaks=1")
+    ran(99, "Direct leak of 300 byte(s)", ASAN_OPTIONS="detect_leaks=0", LSAN_OPTIONS="detect_leaks=1")
+    ran(0, "no reports; 1 process", ASAN_OPTIONS="detect_leaks=0")
+    ran(99, "Direct leak of 300 byte(s)", option="--leaks=yes", ASAN_OPTIONS="detect_leaks=0")
+    ran(0, "leaks (ASANCOL_LEAKS is not 1)", before="ASAN_OPTIONS=detect_leaks=0", ASAN_OPTIONS="detect_leaks=1")
+    write_text(f"{folder}/known", "# known\nleak:^lose$\nodr_violation:x\n")
+    ran(0, "no reports, 1 suppressed;", ASAN_OPTIONS="detect_leaks=1", LSAN_OPTIONS=f"suppressions={folder}/known")
+    ran(0, f"LSAN_OPTIONS: without effect here: suppressions={folder}/no\n", LSAN_OPTIONS=f"suppressions={folder}/no")
+
+
+OF_PROGRAM = """
+const char *__asan_default_options(void) {
+    return "alloc_dealloc_mismatch=0:quarantine_size_mb=3:strict_string_checks=1:symbolize=0:detect_leaks=DETECT"; }
+const char *__lsan_default_suppressions(void) { return "# known\\nleak:^lose$\\n"; }
+"""
+
+
+def check_functions(suite: Suite, folder: str) -> None:
+    """What the program says by its functions holds for it, and else is named."""
+    for leaks, option, text in ("1", "yes", "no reports, 1 suppressed; "), ("0", "summary", "no reports; "):
+        program = make(folder, "gcc", PROGRAM + OF_PROGRAM.replace("DETECT", leaks))
+        ran = suite.run(f"--leaks={option}", "--", program, ASANCOL_REPORT=REPORT)
+        expect_ran(ran, 0, text, "strict_string_checks=1 (__asan_default_options)", "families and sizes of frees",
+                   absent=["symbolize", "asancol: leaks:"])
+
+
+MISMATCHES = """
+#include <stdlib.h>
+#include <new>
+int main() {
+    char *volatile one = new char; free(one);
+    long *volatile two = new long; ::operator delete(two, sizeof(int));
+    return 0; }
+"""
+
+
+def check_mismatches(suite: Suite, folder: str) -> None:
+    """Families of functions are one option, and sizes another."""
+    write_text(f"{folder}/m.cpp", MISMATCHES)
+    call([f"{TOP}/recorder/asancol-c++", "-g", "-w", "m.cpp", "-o", "m"], cwd=folder, check=True)
+    family, size = "alloc-dealloc-mismatch: ", "new-delete-type-mismatch: "
+    for options, there, absent in (
+        ("", [family, size], []),
+        ("alloc_dealloc_mismatch=0", [size], [family]),
+        ("new_delete_type_mismatch=no", [family], [size]),
+        ("alloc_dealloc_mismatch=0:new_delete_type_mismatch=0", ["no reports; "], [family, size]),
+    ):
+        ran = suite.run("--", f"{folder}/m", ASANCOL_REPORT=REPORT, ASAN_OPTIONS=options)
+        expect_ran(ran, 99 if there[0] != "no reports; " else 0, *there, absent=[*absent, "not checked: fam"])
+
+
+def check_same_options(suite: Suite, folder: str) -> None:
+    """The table has each option that the runtimes of the compilers here print."""
+    with open(f"{TOP}/common/asan_options.def", encoding="utf-8") as file:
+        known = re.findall(r"^OPTION\((\w+),", file.read(), re.M)
+    expect(len(known), len(set(known)), "each once")
+    write_text(f"{folder}/m.c", "int main(void) { return 0; }\n")
+    for compiler in compilers_there():
+        for kind in ("address", "leak"):
+            call([compiler, f"-fsanitize={kind}", "m.c", "-o", "m"], cwd=folder, check=True)
+            said = subprocess.run(["./m"], cwd=folder, env={"ASAN_OPTIONS": "help=1", "LSAN_OPTIONS": "help=1"},
+                                  capture_output=True, text=True, timeout=60, check=False).stderr
+            names = re.findall(r"^\t(\w+)$", said, re.M)
+            expect(len(names) > 50 and sorted(set(names) - set(known)), [], f"{compiler} {kind}")
+
+
+def tests(suite: Suite) -> None:
+    if SANITIZE:
+        leave_out("asan: the variables are asancol-run's own")
+        return
+    for name, run in (
+        ("statuses", check_statuses), ("named", check_named), ("leaks", check_leaks), ("functions", check_functions),
+        ("mismatches", check_mismatches), ("same options", check_same_options),
+    ):
+        suite.test(f"asan: {name}", run)
