@@ -15,6 +15,14 @@
 /* What became of a word. */
 enum done { TAKEN, OVERRULED, WITHOUT_EFFECT, UNKNOWN, HARMLESS, DONE_COUNT };
 
+#if defined __has_feature
+#define IS_SANITIZED __has_feature(address_sanitizer)
+#elif defined __SANITIZE_ADDRESS__
+#define IS_SANITIZED 1
+#else
+#define IS_SANITIZED 0
+#endif
+
 /* A line says no more of one variable than this. */
 enum { MAX_LIST = 1000 };
 
@@ -197,11 +205,8 @@ static void take_variable(struct options *options, const char *variable)
 
 void asan_take(struct options *options)
 {
-#ifndef __SANITIZE_ADDRESS__ /* else they are for this program itself */
+    if (IS_SANITIZED) /* they are for this program itself */
+        return;
     take_variable(options, "ASAN_OPTIONS");
     take_variable(options, "LSAN_OPTIONS");
-#else
-    (void)options;
-    (void)take_variable;
-#endif
 }

@@ -31,6 +31,10 @@ static void set_environment(const struct options *options, const char *hub)
         setenv("ASANCOL_MISMATCHES", "0", 1);
     if (options->records_full)
         setenv("ASANCOL_FULL", "1", 1);
+    if (options->for_inner != NULL)
+        setenv("ASANCOL_OUTER", options->for_inner, 1);
+    else
+        unsetenv("ASANCOL_OUTER");
     if (options->preloaded != NULL)
         setenv("LD_PRELOAD", options->preloaded, 1);
 }

@@ -17,6 +17,7 @@
 #include "asan.h"
 #include "names.h"
 #include "option_table.h"
+#include "outer.h"
 #include "preload.h"
 #include "say.h"
 
@@ -240,6 +241,15 @@ static void pass_descriptor(struct options *options, const char *dashed, const c
     options->has_output = true;
 }
 
+/* Whether it is given already, as where a run round this one and this one name the same file. */
+static bool is_passed(const struct options *options, const char *dashed, const char *value)
+{
+    for (size_t i = 0; i + 1 < options->report.count; i++)
+        if (strcmp(options->report.items[i], dashed) == 0 && strcmp(options->report.items[i + 1], value) == 0)
+            return true;
+    return false;
+}
+
 /* A file or a folder that the report is given. */
 static void pass_name(struct options *options, enum action action, const char *dashed, const char *value)
 {
@@ -256,6 +266,8 @@ static void pass_name(struct options *options, enum action action, const char *d
     } else {
         demand(dashed, name, action == PASS_FOLDER);
     }
+    if (action == PASS_INPUT && is_passed(options, dashed, name))
+        return;
     pass(options, dashed, name);
     options->has_output |= action == PASS_OUTPUT;
     options->has_rules |= action == PASS_INPUT;
@@ -359,6 +371,7 @@ static char **take(struct options *options, char **argv)
     char *equals = strchr(word, '=');
     const struct option *option = find(word, equals != NULL ? (size_t)(equals - word) : strlen(word));
     char *dashed;
+    note_given(option);
     if (asprintf(&dashed, "--%s", option->name) < 0)
         must(NULL);
     if (option->action == SET_FLAG || option->action == PASS_FLAG || option->action >= SHOW_HELP) {
@@ -371,7 +384,6 @@ static char **take(struct options *options, char **argv)
     if (value == NULL || (equals == NULL && strcmp(value, "--") == 0))
         fail(OWN_FAILURE, dashed, "it needs a value");
     take_value(options, option, dashed, value);
-    note_given(option);
     return argv;
 }
 
@@ -400,6 +412,42 @@ static void follow_recorder(struct options *options)
     }
 }
 
+/* Takes what the command line of a run round this one says for this one too, where ours says nothing. A file that is not
+   seen from here is left to that run. */
+static void take_from_outer(struct options *options)
+{
+    const char *said = outer_options();
+    char *text = must(strdup(said != NULL ? said : ""));
+    for (char *line = strtok(text, "\n"); line != NULL; line = strtok(NULL, "\n")) {
+        const char *equals = strchr(line, '=');
+        const struct option *option = find(line, equals != NULL ? (size_t)(equals - line) : strlen(line));
+        bool is_file = option->action == PASS_INPUT;
+        if (is_file ? access(equals + 1, R_OK) == 0 : !is_given[option - table])
+            take(options, (char *[]){must(strdup(line)), NULL});
+    }
+    free(text);
+}
+
+/* What was given of this, for runs inside this one. */
+static void note_for_inner(struct options *options)
+{
+    static const char leaks[] = "--leaks", rules[] = "--suppressions";
+    static const char *const words[] = {"summary", "no", "yes"};
+    char *text = NULL;
+    size_t length = 0;
+    FILE *to = must(open_memstream(&text, &length));
+    if (is_given[find(leaks, strlen(leaks)) - table])
+        fprintf(to, "%s=%s\n", leaks, words[options->leaks]);
+    if (options->no_mismatches)
+        fputs("--no-mismatches\n", to);
+    for (size_t i = 0; i + 1 < options->report.count; i++)
+        if (strcmp(options->report.items[i], rules) == 0 && strpbrk(options->report.items[i + 1], "\n%") == NULL)
+            fprintf(to, "%s=%s\n", rules, options->report.items[++i]);
+    if (fclose(to) != 0)
+        must(NULL);
+    options->for_inner = length > 0 ? text : NULL;
+}
+
 struct options options_read(char **argv)
 {
     struct options options = {OPTION_DEFAULTS};
@@ -413,6 +461,10 @@ struct options options_read(char **argv)
     if (*argv == NULL)
         fail(OWN_FAILURE, "there is no command", "asancol-run --help says how to use it");
     options.command = argv;
+    if (!options.are_files) {
+        take_from_outer(&options);
+        note_for_inner(&options);
+    }
     options.demands_leaks = options.leaks == LEAKS_YES;
     if (options.are_files)
         unsetenv("ASANCOL_QUARANTINE"); /* it says nothing of what was recorded before */

@@ -46,10 +46,9 @@ static bool ask(const char *hub, char *answer)
     return !is_late;
 }
 
-/* The hub among settings, or null. */
-static const char *hub_in(const char *settings)
+/* The value of one of the settings, whose name has its equals sign; or null. */
+static const char *value_in(const char *settings, const char *front)
 {
-    static const char front[] = "ASANCOL_HUB=";
     for (const char *at = settings; *at != 0; at += strlen(at) + 1)
         if (begins_with(at, front))
             return at + strlen(front);
@@ -68,25 +67,44 @@ static const char *marked_name(char *line, unsigned long slack)
     return is_hub ? name : NULL;
 }
 
-const char *outer_hub(void)
+/* What the run has answered that was found by its mark. */
+static char answer[SETTINGS_MOST];
+
+/* Looks for it, once. Answers its hub, or null. */
+static const char *find_marked(void)
 {
-    static char answer[SETTINGS_MOST];
-    const char *said = getenv("ASANCOL_HUB"), *found = NULL;
+    static bool is_done;
+    const char *found = NULL;
     int slack = prctl(PR_GET_TIMERSLACK, 0, 0, 0, 0);
     char *line = NULL;
     size_t room = 0;
-    if (said != NULL || slack <= 0 || !slack_has_mark((unsigned long)slack))
-        return said;
+    if (is_done || slack <= 0 || !slack_has_mark((unsigned long)slack))
+        return value_in(answer, "ASANCOL_HUB=");
+    is_done = true;
     FILE *names = fopen("/proc/net/unix", "re");
     bool is_late = false;
     while (names != NULL && found == NULL && !is_late && getline(&line, &room, names) > 0) {
         const char *name = marked_name(line, (unsigned long)slack);
         if (name != NULL)
             is_late = !ask(name, answer);
-        found = hub_in(answer);
+        found = value_in(answer, "ASANCOL_HUB=");
     }
     if (names != NULL)
         fclose(names);
     free(line);
     return found;
+}
+
+const char *outer_hub(void)
+{
+    const char *said = getenv("ASANCOL_HUB");
+    return said != NULL ? said : find_marked();
+}
+
+const char *outer_options(void)
+{
+    const char *said = getenv("ASANCOL_OUTER");
+    if (getenv("ASANCOL_HUB") != NULL || find_marked() == NULL)
+        return said;
+    return value_in(answer, "ASANCOL_OUTER=");
 }

@@ -5,5 +5,7 @@
 /* Its hub: what the environment says, or, if that was cleaned, what it answers that is found by its mark
    (common/inherited.h). Null: there is none. */
 const char *outer_hub(void);
+/* What its command line says for this run too: options, one a line. Null: nothing. */
+const char *outer_options(void);
 
 #endif

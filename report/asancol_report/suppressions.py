@@ -137,7 +137,7 @@ class Suppressions:
         self.rules: List[Union[Rule, PlaceRule]] = []
         self.of_programs: Set[str] = set()  # their lines
 
-    def read(self, path: str) -> List[Wrong]:
+    def read(self, path: str, may_be_unused: bool) -> List[Wrong]:
         """Reads a file, and returns what can't be read. The other lines are used."""
         wrong: List[Wrong] = []
         with open(path, encoding="utf-8", errors="surrogateescape") as file:
@@ -147,6 +147,7 @@ class Suppressions:
                     continue
                 try:
                     self.rules.append(rule_of(text))
+                    self.rules[-1].is_used |= may_be_unused
                 except ValueError as error:
                     wrong.append(Wrong(f"{path}:{number}", f"{printable(text)}: {error}"))
         return wrong

@@ -4,6 +4,7 @@
 #include <string.h>
 
 #include "options.h"
+#include "outer.h"
 #include "ends.h"
 
 enum { MAX_ARGUMENTS = 64 };
@@ -14,6 +15,11 @@ static void expect(bool holds)
 {
     if (!holds)
         abort();
+}
+
+const char *outer_options(void)
+{
+    return "--leaks=yes\n--no-mismatches\n--suppressions=/nonexistent";
 }
 
 static void read_argv(char **argv)
