@@ -3,6 +3,7 @@
 
 #include <errno.h>
 #include <fcntl.h>
+#include <signal.h>
 #include <stdio.h>
 #include <stdlib.h>
 #include <string.h>
@@ -102,7 +103,10 @@ static _Noreturn void become(const struct options *options, const char *hub, cha
 {
     mark_slack(hub);
     signals_restore();
-    execvpe(options->command[0], options->command, environment);
+    /* Whoever has started a program that became its own run knows our number alone. */
+    if (options->self != NULL)
+        prctl(PR_SET_PDEATHSIG, SIGKILL);
+    execvpe(options->self != NULL ? options->self : options->command[0], options->command, environment);
     *error = errno;
     _exit(OWN_FAILURE);
 }

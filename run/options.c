@@ -34,6 +34,7 @@ enum action {
     SET_SECONDS, /* a double, in the range of thousandths */
     SET_OUTPUT,  /* the name of a file, with its marks expanded */
     SET_FOLDER,  /* likewise */
+    SET_INPUT,   /* as it is */
     PASS_CHECK,  /* a number in the range, for the checker */
     PASS_FLAG,   /* a word for the report, and a bool if there is an offset */
     PASS_WORDS,  /* one of some words, for the report, and its place among them if there is an offset */
@@ -68,8 +69,8 @@ static const char *nearest(const char *name, size_t length)
     if (length > 40)
         return NULL;
     for (size_t i = 0; i < COUNT(table); i++) {
-        if (table[i].offset == offsetof(struct options, are_files))
-            continue; /* asancol-report's alone */
+        if (table[i].offset == offsetof(struct options, are_files) || table[i].offset == offsetof(struct options, self))
+            continue; /* asancol-report's or the recorder's alone */
         size_t away = edit_distance(name, length, table[i].name);
         if (length >= 3 && strncmp(name, table[i].name, length) == 0)
             away = 0; /* the beginning of a name is meant, and does not serve */
@@ -345,6 +346,9 @@ static void take_value(struct options *options, const struct option *option, con
         if (option->action == SET_OUTPUT && name_descriptor(*(const char **)field) < 0)
             demand_alone(dashed, *(const char **)field);
         break;
+    case SET_INPUT:
+        *(const char **)field = value;
+        break;
     case PASS_CHECK:
         pass_check(options, option, dashed, value);
         break;
@@ -360,7 +364,7 @@ static void take_value(struct options *options, const struct option *option, con
 static void note_given(const struct option *option)
 {
     for (size_t i = 0; i < COUNT(table); i++)
-        is_given[i] |= option == &table[i] || (option->action <= SET_FOLDER && option->action == table[i].action
+        is_given[i] |= option == &table[i] || (option->action <= SET_INPUT && option->action == table[i].action
                                                && option->offset == table[i].offset);
 }
 

@@ -26,6 +26,7 @@ struct options {
     enum unchecked unchecked;
     enum leaks leaks;
     const char *log;        /* or null */
+    const char *self;       /* the file of the command, or null: its first word names it */
     const char *keep;       /* a folder, or null */
     const char *quarantine; /* as text, or null */
     uint64_t held;          /* how many bytes of freed blocks, if a process does not say otherwise */

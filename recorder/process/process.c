@@ -14,6 +14,7 @@
 #include "heap/heap.h"
 #include "process/aside.h"
 #include "process/orphan.h"
+#include "process/own_run.h"
 #include "process/threads.h"
 #include "process/unseen.h"
 #include "stacks/fake_stack.h"
@@ -158,6 +159,7 @@ void recorder_start(void)
     settings_read(&process.settings);
     process.pattern = process.settings.trace;
     bool wanted = output_name() != NULL;
+    own_run_say(wanted || recorder_halts());
     if (!IS_PRELOADED)
         recorder_say_who();
     enum halt halt = process.settings.halt;

@@ -22,7 +22,7 @@ static const char *const names[] = {
     "ASANCOL_LIMIT",    "ASANCOL_PATIENCE", "ASANCOL_LOG",    "ASANCOL_ALL",   "ASANCOL_HALT",
     "ASANCOL_STOP",     "ASANCOL_REPORT",   "ASANCOL_SYMBOLIZER",              "ASANCOL_SEGMENTS",
     "ASANCOL_LEAKS",    "ASANCOL_MISMATCHES", "ASANCOL_USE_AFTER_RETURN",     "ASANCOL_LIBRARIES",
-    "ASANCOL_FULL",     "ASANCOL_OUTER",
+    "ASANCOL_FULL",     "ASANCOL_OUTER",   "ASANCOL_RUN",
 #define FRONT(name, end, variable, usual, has_new, links_libm) variable,
 #include "wrapper/fronts.def"
 };

@@ -14,6 +14,7 @@
 #include "process/aside.h"
 #include "process/beginning.h"
 #include "process/halt.h"
+#include "process/own_run.h"
 #include "process/process.h"
 #include "process/signals.h"
 #include "process/threads.h"
@@ -102,6 +103,7 @@ void asancol_start(void)
     has_begun = true;
     library_begin();
     find_argv();
+    own_run_begin();
     shadow_map();
     register_ends();
     interface_start();

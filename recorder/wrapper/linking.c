@@ -167,6 +167,8 @@ static void add_to_program(struct strings *line, const struct job *job)
         strings_add(line, "-Wl,--undefined=" EVERY_CALL);
         strings_add_all(line, shown, COUNT(shown));
     }
+    if (has_start(link) && job->request.asks_for_address)
+        strings_add(line, "-Wl,--undefined=asancol_by_flag");
     add_file(line, "libasancol_record.a");
     if (link->has_libc)
         strings_add(line, "-lc"); /* for what the recorder calls */

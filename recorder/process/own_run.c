@@ -1,0 +1,136 @@
+#define _GNU_SOURCE
+#include "process/own_run.h"
+
+#include <asm/termbits.h>
+#include <errno.h>
+#include <limits.h>
+#include <string.h>
+#include <sys/ioctl.h>
+#include <sys/mman.h>
+#include <unistd.h>
+
+#include "base/errors.h"
+#include "base/platform.h"
+#include "base/say.h"
+#include "base/system.h"
+#include "process/aside.h"
+#include "process/beginning.h"
+#include "process/orphan.h"
+
+#define PROGRAM "asancol-run"
+
+/* There if the link was asked for it by -fsanitize=address (by_flag.c). */
+extern const char asancol_by_flag[] __attribute__((visibility("default"), weak));
+
+/* Why the program has not become a run of its own; null: nobody wants that. */
+static const char *failure;
+
+/* The value of a variable that is not empty, or null. */
+static const char *value_of(const char *name)
+{
+    size_t length = strlen(name);
+    for (char **entry = beginning.variables; entry != NULL && *entry != NULL; entry++)
+        if (strncmp(*entry, name, length) == 0 && (*entry)[length] == '=')
+            return (*entry)[length + 1] != 0 ? *entry + length + 1 : NULL;
+    return NULL;
+}
+
+/* Whether the process records already, or a run is found whose setting it has lost. */
+static bool has_output(void)
+{
+    if (value_of("ASANCOL_HUB") != NULL || value_of("ASANCOL_TRACE") != NULL || value_of("ASANCOL_SOCKET") != NULL)
+        return true;
+    orphan_ask();
+    return orphan_value("ASANCOL_HUB") != NULL;
+}
+
+/* The program's own file. Its first word may be any other. */
+static bool find_self(char *path, size_t room)
+{
+    ssize_t length = system_readlink("/proc/self/exe", path, room - 1);
+    if (length > 0)
+        path[length] = 0;
+    else if (strchr(beginning_name(), '/') != NULL && strlen(beginning_name()) < room)
+        strcpy(path, beginning_name());
+    else
+        return false;
+    return system_access(path, X_OK) == 0;
+}
+
+/* asancol-run -q --self FILE -- and the program's words. Null: there is no memory. */
+static const char **make_words(const char *self)
+{
+    static const char *const front[] = {PROGRAM, "-q", "--self", NULL, "--"};
+    enum { FRONT = sizeof front / sizeof *front };
+    size_t count = 0;
+    while (beginning.argv[count] != NULL)
+        count++;
+    size_t bytes = (count + FRONT + 1) * sizeof *front;
+    long made = system_mmap(NULL, bytes, PROT_READ | PROT_WRITE, MAP_PRIVATE | MAP_ANONYMOUS, -1, 0);
+    const char **words = (const char **)made;
+    if (made < 0 && made > -PAGE)
+        return NULL;
+    memcpy(words, front, sizeof front);
+    words[3] = self;
+    for (size_t i = 0; i <= count; i++)
+        words[FRONT + i] = beginning.argv[i];
+    return words;
+}
+
+/* Answers why it did not. */
+static int become(const char *path, const char *const *words)
+{
+    return -(int)system_call3(SYS_execve, (long)path, (long)words, (long)beginning.variables);
+}
+
+/* Tries each folder of PATH. */
+static int become_found(const char *const *words)
+{
+    char path[PATH_MAX];
+    const char *at = value_of("PATH");
+    int error = ENOENT;
+    for (at = at != NULL ? at : "/usr/local/bin:/usr/bin:/bin"; *at != 0; at += *at == ':') {
+        size_t length = strcspn(at, ":");
+        if (length > 0 && length + sizeof "/" PROGRAM <= sizeof path) {
+            memcpy(path, at, length);
+            strcpy(path + length, "/" PROGRAM);
+            int tried = become(path, words);
+            error = tried != ENOENT && tried != ENOTDIR ? tried : error;
+        }
+        at += length;
+    }
+    return error;
+}
+
+void own_run_begin(void)
+{
+    static char self[PATH_MAX];
+    const char *wanted = value_of("ASANCOL_RUN");
+    if (IS_PRELOADED || wanted == NULL || strcmp(wanted, "0") == 0 || beginning.argv == NULL || beginning.is_set_user
+        || has_output())
+        return;
+    const char **words = NULL;
+    if (!find_self(self, sizeof self))
+        failure = "its own file is not known, or cannot be executed, so it runs unchecked";
+    else if ((words = make_words(self)) == NULL)
+        failure = "there is no memory, so it runs unchecked";
+    if (words == NULL)
+        return;
+    int error = strchr(wanted, '/') != NULL ? become(wanted, words) : become_found(words);
+    failure = error == ENOENT ? PROGRAM " was not found, so it runs unchecked: ASANCOL_RUN may be its path"
+                              : error_text(error);
+}
+
+static bool is_at_terminal(void)
+{
+    struct termios unused;
+    return system_call3(SYS_ioctl, STDERR_FILENO, TCGETS, (long)&unused) == 0;
+}
+
+void own_run_say(bool is_recorded)
+{
+    if (failure != NULL)
+        recorder_say("ASANCOL_RUN: ", beginning_name(), failure);
+    else if (!is_recorded && asancol_by_flag != NULL && is_at_terminal())
+        recorder_say("", "not checked", "run it under " PROGRAM ", or set ASANCOL_RUN=1");
+}
