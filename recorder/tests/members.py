@@ -116,10 +116,17 @@ def check_weak(suite: Suite, folder: str, compiler: Compiler) -> None:
 
 
 def check_late(suite: Suite, folder: str, compiler: Compiler) -> None:
-    """A library that the compiler puts behind the recorder calls what nothing else does."""
-    write(folder, late_c=LATE, main_c=CALLS_LATE, late_specs=f"*lib:\n+ {folder}/late.o\n\n")
+    """A library that the compiler puts behind the recorder calls what nothing else does. The link that fails by that is
+    no matter of the user's; what another one says is said once."""
+    write(folder, late_c=LATE, main_c=CALLS_LATE, late_specs=f"*lib:\n+ {folder}/late.o\n\n",
+          lacks_c="int nothing_has_this(void);\n#warning so\nint main(void) { return nothing_has_this(); }\n",
+          warns_c="#warning so\n" + CALLS_LATE)
     compiler.c(folder, ["-c", "late.c"], "late.o", "-fno-builtin", native=True)
-    compiler.c(folder, ["main.c"], "main", "-specs=late.specs")
+    for source, status, counts in (("main", 0, (0, 0)), ("warns", 0, (1, 0)), ("lacks", 1, (1, 1))):
+        ran = run([CC, f"{source}.c", "-o", source, "-specs=late.specs"], folder, ASANCOL_CC=compiler.name)
+        found = (ran.stderr.count(b"warning: #warning so"), ran.stderr.count(b"undefined reference to `nothing_has_this'"))
+        expect((ran.returncode, found, counts == (0, 0) and ran.stderr), (status, counts, counts == (0, 0) and b""),
+               source)
     expect(run(["./main", "a b"], folder).returncode, 0, "status")
 
 

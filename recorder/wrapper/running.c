@@ -29,11 +29,22 @@ static bool keeps_symbols(const char *word)
     return strcmp(word, "-s") != 0 && strcmp(word, "-Wl,-s") != 0 && strcmp(word, "-Wl,--strip-all") != 0;
 }
 
+/* Standard error is a terminal, and the compiler that is run does not see it. */
+static bool shows_colors;
+
+static bool is_at_terminal(void)
+{
+    const char *terminal = getenv("TERM");
+    return isatty(STDERR_FILENO) && terminal != NULL && strcmp(terminal, "dumb") != 0;
+}
+
 /* What is run: the compiler with its caller's arguments and ours. */
 static struct strings make_line(const struct job *job, bool is_try)
 {
     struct strings line = {0};
     strings_add_all(&line, job->command.items, job->command.count);
+    if (shows_colors)
+        strings_add(&line, "-fdiagnostics-color=always");
     if (job->takes_part)
         compiling_add_before(&line, job);
     if (job->takes_part && job->links)
@@ -117,15 +128,20 @@ static off_t keep_standard_input(void)
     return 0;
 }
 
+/* Where standard error of a compiler goes: to ours, nowhere, or else into a file of this number. */
+enum { ERRORS_OURS = -1, ERRORS_NOWHERE = -2 };
+
 /* Starts the compiler, whose output goes there. */
-static pid_t start(const struct strings *line, int output, bool is_silent)
+static pid_t start(const struct strings *line, int output, int errors)
 {
     posix_spawn_file_actions_t actions;
     pid_t child;
     posix_spawn_file_actions_init(&actions);
     posix_spawn_file_actions_adddup2(&actions, output, STDOUT_FILENO);
-    if (is_silent)
+    if (errors == ERRORS_NOWHERE)
         posix_spawn_file_actions_addopen(&actions, STDERR_FILENO, "/dev/null", O_WRONLY, 0);
+    else if (errors != ERRORS_OURS)
+        posix_spawn_file_actions_adddup2(&actions, errors, STDERR_FILENO);
     int error = posix_spawn(&child, line->items[0], &actions, NULL, (char *const *)line->items, environ);
     if (error != 0)
         fail(line->items[0], strerror(error));
@@ -184,7 +200,7 @@ int running_compile(struct job *job)
     struct strings line = make_line(job, false);
     pass_signals_on();
     end_if_ended();
-    atomic_store(&compiler, start(&line, STDOUT_FILENO, false));
+    atomic_store(&compiler, start(&line, STDOUT_FILENO, ERRORS_OURS));
     if (ending != 0)
         kill(atomic_load(&compiler), ending);
     int status = wait_for(atomic_load(&compiler), line.items[0]);
@@ -198,7 +214,7 @@ int running_compile(struct job *job)
 }
 
 /* Links, and returns the status. */
-static int link_once(const struct job *job, bool is_try, struct link *link, bool is_silent)
+static int link_once(const struct job *job, bool is_try, struct link *link, int errors)
 {
     int ends[2];
     struct strings line = make_line(job, is_try);
@@ -206,7 +222,7 @@ static int link_once(const struct job *job, bool is_try, struct link *link, bool
         lseek(STDIN_FILENO, link->start, SEEK_SET);
     if (pipe2(ends, O_CLOEXEC) != 0)
         fail(line.items[0], strerror(errno));
-    pid_t child = start(&line, ends[1], is_silent);
+    pid_t child = start(&line, ends[1], errors);
     close(ends[1]);
     char *text = read_all(ends[0]);
     int status = wait_for(child, line.items[0]);
@@ -234,19 +250,38 @@ static int end_link(const struct job *job, struct link *link, int status, const 
     return fflush(stdout) == 0 || status != 0 ? status : 1;
 }
 
+/* Copies what a compiler has said to standard error. */
+static void give_errors(int errors)
+{
+    char bytes[BUFSIZ];
+    ssize_t count;
+    for (off_t at = 0; errors >= 0 && (count = pread(errors, bytes, sizeof bytes, at)) > 0; at += count)
+        if (write(STDERR_FILENO, bytes, (size_t)count) != count)
+            return;
+}
+
 /* The first link. If it fails, what came in behind the recorder may have asked for calls that are not there: so it is
-   done again with all of them, and is as it was if that fails too. */
+   done again with all of them, and is as it was if that fails too. What the one that counts has said is given then. */
 static int link_first(struct job *job, struct link *link, bool is_try, bool is_silent)
 {
     struct link again = *link;
-    int status = link_once(job, is_try, link, is_silent);
-    if (status == 0 || !link->taken.has_begun || !linking_has_some_calls(job))
-        return status;
-    job->request.link.needs_every_call = true;
-    if (link_once(job, is_try, &again, true) != 0)
-        return status;
-    *link = again;
-    return 0;
+    if (!linking_has_some_calls(job))
+        return link_once(job, is_try, link, is_silent ? ERRORS_NOWHERE : ERRORS_OURS);
+    int first = is_silent ? ERRORS_NOWHERE : memfd_create("errors", MFD_CLOEXEC), counts = first;
+    int second = is_silent ? ERRORS_NOWHERE : memfd_create("errors", MFD_CLOEXEC);
+    shows_colors = !is_silent && is_at_terminal();
+    int status = link_once(job, is_try, link, first);
+    if (status != 0 && link->taken.has_begun) {
+        job->request.link.needs_every_call = true;
+        if (link_once(job, is_try, &again, second) == 0) {
+            *link = again;
+            counts = second;
+            status = 0;
+        }
+    }
+    shows_colors = false;
+    give_errors(counts);
+    return status;
 }
 
 /* Whether it is to be linked again, by what it has taken in and what is in it. */
@@ -270,9 +305,9 @@ int running_link(struct job *job)
     bool is_again = status == 0 && !is_static && needs_another(job, &first, output);
     if (!is_twice && !is_again)
         return end_link(job, &first, status, output);
-    status = link_once(job, false, &second, !is_twice);
+    status = link_once(job, false, &second, is_twice ? ERRORS_OURS : ERRORS_NOWHERE);
     if (status == 0 || is_twice)
         return end_link(job, &second, status, output);
-    status = link_once(job, false, &third, false);
+    status = link_once(job, false, &third, ERRORS_OURS);
     return end_link(job, &third, status, output);
 }
