@@ -17,7 +17,13 @@ enum asan_option {
 };
 
 /* What becomes of them: the first letter of each row. */
-enum asan_fate { ASAN_IS_UNKNOWN = 0, ASAN_IS_RUN = 'R', ASAN_IS_PROCESS = 'P', ASAN_IS_FIXED = 'F', ASAN_IS_HARMLESS = 'H' };
+enum asan_fate {
+    ASAN_IS_UNKNOWN = 0,
+    ASAN_IS_RUN = 'R',
+    ASAN_IS_PROCESS = 'P',
+    ASAN_IS_FIXED = 'F',
+    ASAN_IS_HARMLESS = 'H'
+};
 
 /* An option as it is written, without quotes round its value. */
 struct asan_word {
@@ -64,7 +70,8 @@ static inline void asan_look_up(struct asan_word *word)
     for (const char *fate = rows; *fate != 0; number++) {
         const char *name = fate + strlen(fate) + 1, *value = name + strlen(name) + 1;
         if (strlen(name) == word->name_length && strncmp(name, word->name, word->name_length) == 0) {
-            bool is_no = strcmp(value, "0") == 0 && asan_is_no(word), is_yes = strcmp(value, "1") == 0 && asan_is_yes(word);
+            bool is_no = strcmp(value, "0") == 0 && asan_is_no(word);
+            bool is_yes = strcmp(value, "1") == 0 && asan_is_yes(word);
             word->option = (enum asan_option)number;
             word->fate = (enum asan_fate)*fate;
             word->is_fixed_value = is_no || is_yes || asan_is_word(word, value);

@@ -167,7 +167,8 @@ static void add_word(char **list, const struct asan_word *word)
         return;
     int shown = word->value_length < 200 ? (int)word->value_length : 200;
     if (asprintf(&more, "%s%s%.*s%s%.*s", length > 0 ? *list : "", length > 0 ? ", " : "",
-                 word->name_length < 80 ? (int)word->name_length : 80, word->name, shown > 0 ? "=" : "", shown, word->value)
+                 word->name_length < 80 ? (int)word->name_length : 80, word->name, shown > 0 ? "=" : "", shown,
+                 word->value)
         < 0)
         must(NULL);
     free(*list);
@@ -197,9 +198,10 @@ static void take_variable(struct options *options, const char *variable)
     while (at != NULL && asan_next(&at, &word))
         if (word.name_length > 0)
             add_word(&lists[take_word(options, &word)], &word);
-    add_line(&options->asan_notes, variable, "without effect here: ", lists[WITHOUT_EFFECT], "unknown: ", lists[UNKNOWN]);
-    add_line(&options->asan_taken, variable, "taken: ", lists[TAKEN], "the command line or an ASANCOL variable wins: ",
-             lists[OVERRULED]);
+    add_line(&options->asan_notes, variable, "without effect here: ", lists[WITHOUT_EFFECT],
+             "unknown: ", lists[UNKNOWN]);
+    add_line(&options->asan_taken, variable, "taken: ", lists[TAKEN],
+             "the command line or an ASANCOL variable wins: ", lists[OVERRULED]);
     add_line(&options->asan_taken, variable, "no report depends on ", lists[HARMLESS], "", NULL);
 }
 
@@ -209,4 +211,33 @@ void asan_take(struct options *options)
         return;
     take_variable(options, "ASAN_OPTIONS");
     take_variable(options, "LSAN_OPTIONS");
+}
+
+const char *asan_hint(const char *name, size_t length)
+{
+    static const struct {
+        const char *name, *hint;
+    } known[] = {
+        {"halt", "ASANCOL_HALT=1 in the environment ends each process at its first bad access"},
+        {"halt_on_error", "ASANCOL_HALT=1 in the environment ends each process at its first bad access"},
+        {"detect_leaks", "is --leaks=yes meant?"},
+        {"log_path", "is --log-file meant?"},
+        {"quarantine_size_mb", "is --quarantine meant, in bytes?"},
+    };
+    static char hint[160]; /* the program ends with it */
+    char text[80];
+    struct asan_word word = {.name = text, .value = "", .name_length = length};
+    if (length >= sizeof text)
+        return NULL;
+    for (size_t i = 0; i < length; i++)
+        text[i] = name[i] == '-' ? '_' : name[i];
+    text[length] = 0;
+    for (size_t i = 0; i < sizeof known / sizeof *known; i++)
+        if (strcmp(text, known[i].name) == 0)
+            return known[i].hint;
+    asan_look_up(&word);
+    if (word.fate != ASAN_IS_RUN && word.fate != ASAN_IS_PROCESS)
+        return NULL;
+    snprintf(hint, sizeof hint, "ASAN_OPTIONS=%s=.. in the environment is read", text);
+    return hint;
 }

@@ -161,6 +161,26 @@ static struct strings troubles_of(const struct run_end *end)
     return lines;
 }
 
+/* What the reader is told besides. */
+static struct strings notes_of(const struct options *options)
+{
+    struct strings lines = lowered_lines(options, true);
+    const char *runtime = unchecked_sanitizer();
+    char *text;
+    if (runtime != NULL) {
+        if (asprintf(&text,
+                     "%s was in a process: AddressSanitizer's runtime does not work in programs of asancol-cc; "
+                     "is it in LD_PRELOAD?",
+                     runtime)
+            < 0)
+            must(NULL);
+        strings_add(&lines, text);
+    }
+    for (size_t i = 0; i < options->asan_notes.count; i++)
+        strings_add(&lines, options->asan_notes.items[i]);
+    return lines;
+}
+
 /* What the status follows from, before asancol-report has said anything. */
 static struct seen seen_of(const struct sum *sum, const struct run_end *end)
 {
@@ -293,6 +313,9 @@ static pid_t start(const struct options *options, int *signals)
         int error = errno;
         nested_take_back();
         folder_remove();
+        if (status == NOT_FOUND && options->command[1] == NULL && strpbrk(options->command[0], " \t\n") != NULL)
+            fail(status, options->command[0],
+                 "no such file: it is one word, and no shell takes it apart; leave out the quotes, or use sh -c");
         fail(status, options->command[0], strerror(error));
     }
     signals_ignore_writes();
@@ -345,10 +368,8 @@ int main(int count, char **argv)
         .is_running = collected.is_running,
         .has_timed_out = collected.has_timed_out,
         .lost = nested.lost,
-        .notes = lowered_lines(&options, true),
+        .notes = notes_of(&options),
     };
-    for (size_t i = 0; i < options.asan_notes.count; i++)
-        strings_add(&end.notes, options.asan_notes.items[i]);
     end.troubles = troubles_of(&end);
     bool is_incomplete = is_cut_short(&sum, &end);
     bool is_error = options.unchecked == UNCHECKED_ERROR && unchecked_count() > 0;

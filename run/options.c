@@ -84,8 +84,11 @@ static const char *nearest(const char *name, size_t length)
 
 static _Noreturn void fail_unknown(const char *word, size_t length)
 {
+    const char *hint = word[1] == '-' ? asan_hint(word + 2, length - 2) : NULL;
     const char *name = word[1] == '-' ? nearest(word + 2, length - 2) : NULL;
-    if (name != NULL)
+    if (hint != NULL)
+        say("asancol-run: there is no option %.*s; %s", (int)length, word, hint);
+    else if (name != NULL)
         say("asancol-run: there is no option %.*s; is --%s meant?", (int)length, word, name);
     else
         say("asancol-run: there is no option %.*s", (int)length, word);
@@ -416,8 +419,8 @@ static void follow_recorder(struct options *options)
     }
 }
 
-/* Takes what the command line of a run round this one says for this one too, where ours says nothing. A file that is not
-   seen from here is left to that run. */
+/* Takes what the command line of a run round this one says for this one too, where ours says nothing. A file that is
+   not seen from here is left to that run. */
 static void take_from_outer(struct options *options)
 {
     const char *said = outer_options();

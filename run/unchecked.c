@@ -125,6 +125,22 @@ bool unchecked_is_any(void)
     return count_of(&unchecked.own) + count_of(&unchecked.system) > 0;
 }
 
+static const char *find_sanitizer(const struct names *names)
+{
+    static const char *const fronts[] = {"libasan.so", "libclang_rt.asan"};
+    for (size_t i = 0; i < names->count; i++)
+        for (size_t j = 0; j < sizeof fronts / sizeof *fronts; j++)
+            if (strncmp(names->names[i], fronts[j], strlen(fronts[j])) == 0)
+                return names->names[i];
+    return NULL;
+}
+
+const char *unchecked_sanitizer(void)
+{
+    const char *found = find_sanitizer(&unchecked.system);
+    return found != NULL ? found : find_sanitizer(&unchecked.own);
+}
+
 void unchecked_say(FILE *to)
 {
     size_t said = unchecked.own.count < MAX_SAID ? unchecked.own.count : MAX_SAID;

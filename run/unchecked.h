@@ -17,6 +17,8 @@ void unchecked_take(const struct segment *segment);
 size_t unchecked_count(void);
 /* Whether there are any, or libraries of the system. */
 bool unchecked_is_any(void);
+/* The runtime of AddressSanitizer that a process had in it, or null. */
+const char *unchecked_sanitizer(void);
 /* Writes the first names, how many more there are, and how many libraries of the system. `unchecked_text` of
    asancol-report says the same of several runs. */
 void unchecked_say(FILE *to);

@@ -54,8 +54,8 @@ ENDS = [b"closed events 2 offset 36 reports 1", b"no-memory checked 5 reports 1"
         b"malformed code events 1 offset 20 reports 0", b"no-close events 1 offset 20 reports 0"]
 
 TARGETS = [
-    Target("recorder: settings", [f"{OURS}/settings.c", *(f"{RECORDER}/process/{it}.c" for it in ("settings", "asan_options"))],
-           ENVIRONMENT,
+    Target("recorder: settings",
+           [f"{OURS}/settings.c", f"{RECORDER}/process/settings.c", f"{RECORDER}/process/asan_options.c"], ENVIRONMENT,
            [b"ASANCOL_", b"TRACE=", b"QUARANTINE=", b"SOCKET=", b"HUB=", b"%p", b"%%"]),
     Target("recorder: formats", [f"{OURS}/formats.c"], FORMATS, [b"%", b"*", b"hh", b"ll", b"%[", b"^]", b"%1$d"]),
     Target("recorder: frames", [f"{OURS}/frames.c", f"{RECORDER}/stacks/frames.c"],

@@ -58,7 +58,7 @@ static bool find_self(char *path, size_t room)
 }
 
 /* asancol-run -q --self FILE -- and the program's words. Null: there is no memory. */
-static const char **make_words(const char *self)
+static const char **make_argv(const char *self)
 {
     static const char *const front[] = {PROGRAM, "-q", "--self", NULL, "--"};
     enum { FRONT = sizeof front / sizeof *front };
@@ -67,24 +67,24 @@ static const char **make_words(const char *self)
         count++;
     size_t bytes = (count + FRONT + 1) * sizeof *front;
     long made = system_mmap(NULL, bytes, PROT_READ | PROT_WRITE, MAP_PRIVATE | MAP_ANONYMOUS, -1, 0);
-    const char **words = (const char **)made;
+    const char **argv = (const char **)made;
     if (made < 0 && made > -PAGE)
         return NULL;
-    memcpy(words, front, sizeof front);
-    words[3] = self;
+    memcpy(argv, front, sizeof front);
+    argv[3] = self;
     for (size_t i = 0; i <= count; i++)
-        words[FRONT + i] = beginning.argv[i];
-    return words;
+        argv[FRONT + i] = beginning.argv[i];
+    return argv;
 }
 
 /* Answers why it did not. */
-static int become(const char *path, const char *const *words)
+static int become(const char *path, const char *const *argv)
 {
-    return -(int)system_call3(SYS_execve, (long)path, (long)words, (long)beginning.variables);
+    return -(int)system_call3(SYS_execve, (long)path, (long)argv, (long)beginning.variables);
 }
 
 /* Tries each folder of PATH. */
-static int become_found(const char *const *words)
+static int become_found(const char *const *argv)
 {
     char path[PATH_MAX];
     const char *at = value_of("PATH");
@@ -94,7 +94,7 @@ static int become_found(const char *const *words)
         if (length > 0 && length + sizeof "/" PROGRAM <= sizeof path) {
             memcpy(path, at, length);
             strcpy(path + length, "/" PROGRAM);
-            int tried = become(path, words);
+            int tried = become(path, argv);
             error = tried != ENOENT && tried != ENOTDIR ? tried : error;
         }
         at += length;
@@ -109,14 +109,14 @@ void own_run_begin(void)
     if (IS_PRELOADED || wanted == NULL || strcmp(wanted, "0") == 0 || beginning.argv == NULL || beginning.is_set_user
         || has_output())
         return;
-    const char **words = NULL;
+    const char **argv = NULL;
     if (!find_self(self, sizeof self))
         failure = "its own file is not known, or cannot be executed, so it runs unchecked";
-    else if ((words = make_words(self)) == NULL)
+    else if ((argv = make_argv(self)) == NULL)
         failure = "there is no memory, so it runs unchecked";
-    if (words == NULL)
+    if (argv == NULL)
         return;
-    int error = strchr(wanted, '/') != NULL ? become(wanted, words) : become_found(words);
+    int error = strchr(wanted, '/') != NULL ? become(wanted, argv) : become_found(argv);
     failure = error == ENOENT ? PROGRAM " was not found, so it runs unchecked: ASANCOL_RUN may be its path"
                               : error_text(error);
 }

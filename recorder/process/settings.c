@@ -220,8 +220,8 @@ static void read_outputs(struct settings *settings)
         settings->trace = traces_beside(settings->hub, &beside);
 }
 
-/* What AddressSanitizer has options for too. A variable of ASANCOL comes first, except that a process can turn leaks off
-   for itself, unless --leaks=yes was given. */
+/* What AddressSanitizer has options for too. A variable of ASANCOL comes first, except that a process can turn leaks
+   off for itself, unless --leaks=yes was given. */
 static void read_options_of_asan(struct settings *settings)
 {
     enum { LEAKS_IN_ANY_CASE = 2 };

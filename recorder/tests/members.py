@@ -124,7 +124,7 @@ def check_late(suite: Suite, folder: str, compiler: Compiler) -> None:
     compiler.c(folder, ["-c", "late.c"], "late.o", "-fno-builtin", native=True)
     for source, status, counts in (("main", 0, (0, 0)), ("warns", 0, (1, 0)), ("lacks", 1, (1, 1))):
         ran = run([CC, f"{source}.c", "-o", source, "-specs=late.specs"], folder, ASANCOL_CC=compiler.name)
-        found = (ran.stderr.count(b"warning: #warning so"), ran.stderr.count(b"undefined reference to `nothing_has_this'"))
+        found = tuple(map(ran.stderr.count, (b"warning: #warning so", b"undefined reference to `nothing_has_this'")))
         expect((ran.returncode, found, counts == (0, 0) and ran.stderr), (status, counts, counts == (0, 0) and b""),
                source)
     expect(run(["./main", "a b"], folder).returncode, 0, "status")

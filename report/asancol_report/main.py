@@ -107,8 +107,8 @@ class Report:
         self.text.short[text] = f"{what} was not used"
 
     def read_suppressions(self, path: str) -> None:
-        """Reads a file of suppressions. In a run that goes on, what can be read of it is used. One of a run round this one need
-        not match anything here."""
+        """Reads a file of suppressions. In a run that goes on, what can be read of it is used. One of a run round this
+        one need not match anything here."""
         outer = os.environ.get("ASANCOL_OUTER", "").split("\n")
         for wrong in self.suppressions.read(path, f"--suppressions={path}" in outer):
             if not self.options.switches["--run"]:

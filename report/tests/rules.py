@@ -105,8 +105,8 @@ def baseline(folder: str) -> None:
 
 @report_test
 def run_has_bad_rules(folder: str) -> None:
-    """What is wrong there is said at once, and after the summary what was not used. What can be used is, also of the same
-    file."""
+    """What is wrong there is said at once, and after the summary what was not used. What can be used is, also of the
+    same file."""
     feed = Feed(folder, "--json", "known.jsonl")
     feed.begin()
     feed.process(0, FREED + END)
@@ -159,5 +159,6 @@ def suppressions_of_address_sanitizer(folder: str) -> None:
     report(folder, "--trace", "a.trace", "--json", "a.jsonl")
     write_text(f"{folder}/rules", "# ours\nodr_violation:^table$\ninterceptor_name:use\nleak:main\nfun:dr*p\n")
     ran = report(folder, "a.jsonl", "--suppressions", "rules")
-    expect_in(ran.out, "no reports, 4 suppressed;", "matched nothing: interceptor_name:use", "matched nothing: leak:main")
+    expect_in(ran.out, "no reports, 4 suppressed;", "matched nothing: interceptor_name:use",
+              "matched nothing: leak:main")
     expect_not_in(ran.out, "odr_violation")

@@ -8,7 +8,8 @@ from support import REPORT, SANITIZE, TOP, Suite, expect, expect_ran, leave_out,
 from testing.programs import call, compilers_there
 
 PAST = "heap-buffer-overflow: store of 1 byte"
-NOTE = "asancol: ASAN_OPTIONS: without effect here: log_path=/tmp/x, strict_string_checks=1; unknown: halt_on_eror=1, x\n"
+NOTE = ("asancol: ASAN_OPTIONS: without effect here: log_path=/tmp/x, strict_string_checks=1; "
+        "unknown: halt_on_eror=1, x\n")
 
 
 def check_statuses(suite: Suite, folder: str) -> None:
@@ -100,6 +101,16 @@ def check_mismatches(suite: Suite, folder: str) -> None:
         expect_ran(ran, 99 if there[0] != "no reports; " else 0, *there, absent=[*absent, "not checked: fam"])
 
 
+def check_mistakes(suite: Suite, folder: str) -> None:
+    """A command in quotes, and AddressSanitizer's runtime that is preloaded, are named."""
+    expect_ran(suite.run("--", f"{suite.program} sound"), 127, " sound: no such file: it is one word, and no shell")
+    expect_ran(suite.run("--", f"{folder}/not there", "x"), 127, "not there: No such file or directory")
+    library = call(["gcc", "-print-file-name=libasan.so"], stdout=subprocess.PIPE, text=True, check=True).stdout.strip()
+    if library != "libasan.so":
+        ran = suite.run("--", "env", f"LD_PRELOAD={library}", suite.program, "sound", ASANCOL_REPORT=REPORT)
+        expect_ran(ran, 98, "asancol: libasan.so.", " was in a process: ", "is it in LD_PRELOAD?")
+
+
 def check_same_options(suite: Suite, folder: str) -> None:
     """The table has each option that the runtimes of the compilers here print."""
     with open(f"{TOP}/common/asan_options.def", encoding="utf-8") as file:
@@ -109,8 +120,8 @@ def check_same_options(suite: Suite, folder: str) -> None:
     for compiler in compilers_there():
         for kind in ("address", "leak"):
             call([compiler, f"-fsanitize={kind}", "m.c", "-o", "m"], cwd=folder, check=True)
-            said = subprocess.run(["./m"], cwd=folder, env={"ASAN_OPTIONS": "help=1", "LSAN_OPTIONS": "help=1"},
-                                  capture_output=True, text=True, timeout=60, check=False).stderr
+            said = call(["./m"], cwd=folder, env={"ASAN_OPTIONS": "help=1", "LSAN_OPTIONS": "help=1"},
+                        capture_output=True, text=True, check=False).stderr
             names = re.findall(r"^\t(\w+)$", said, re.M)
             expect(len(names) > 50 and sorted(set(names) - set(known)), [], f"{compiler} {kind}")
 
@@ -121,6 +132,6 @@ def tests(suite: Suite) -> None:
         return
     for name, run in (
         ("statuses", check_statuses), ("named", check_named), ("leaks", check_leaks), ("functions", check_functions),
-        ("mismatches", check_mismatches), ("same options", check_same_options),
+        ("mismatches", check_mismatches), ("mistakes", check_mistakes), ("same options", check_same_options),
     ):
         suite.test(f"asan: {name}", run)

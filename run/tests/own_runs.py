@@ -7,7 +7,7 @@ from typing import List
 
 from lives import at_terminal
 from support import CC, REPORT, RUN, Ran, Suite, expect, expect_in, expect_not_in, expect_ran, write_text
-from testing.programs import call
+from testing.programs import Started, call
 
 PAST = "heap-buffer-overflow: store of 1 byte"
 NOT_CHECKED = "asancol: not checked: run it under asancol-run, or set ASANCOL_RUN=1"
@@ -70,14 +70,11 @@ def check_ended(suite: Suite, folder: str) -> None:
     """Whoever ends it ends what it runs."""
     program = make(folder)
     for number in (signal.SIGTERM, signal.SIGKILL):
-        environment = suite.environment(ASANCOL_RUN=RUN)
-        with subprocess.Popen([program, "waits"], env=environment, stdout=subprocess.PIPE) as started:
-            output = started.stdout
-            expect(output.read(1) if output else b"", b"x", "it has begun")
-            started.send_signal(number)
-            started.wait(60)
-            expect(output.read() if output else b"", b"", "nobody has its output open any more")
-            expect(started.returncode, -number, f"signal {number}")
+        started = Started([program, "waits"], env=suite.environment(ASANCOL_RUN=RUN), stdout=subprocess.PIPE)
+        expect(started.stdout.read(1) if started.stdout else b"", b"x", "it has begun")
+        started.send_signal(number)
+        output, _ = started.communicate()
+        expect((output, started.returncode), (b"", -number), f"signal {number}, and nobody has its output open")
 
 
 def check_terminal(suite: Suite, folder: str) -> None:

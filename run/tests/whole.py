@@ -366,7 +366,8 @@ def check_nested(suite: Suite, folder: str) -> None:
 
 
 def check_nested_options(suite: Suite, folder: str) -> None:
-    """What the outer run was told of leaks, mismatches and suppressions holds for runs inside it; their own words win."""
+    """What the outer run was told of leaks, mismatches and suppressions holds for runs inside it; their own words
+    win."""
     program, inner = make(folder, "gcc"), f"{RUN} -q"
     with open(f"{folder}/known", "w", encoding="utf-8") as file:
         file.write("leak:^lose$\nheap-buffer-overflow:*\n")
@@ -378,10 +379,9 @@ def check_nested_options(suite: Suite, folder: str) -> None:
         ("--leaks=yes", "--leaks=no --", 0, ["no reports; "]),
         ("--no-mismatches", "--leaks=yes --", 99, ["Direct leak of 300 byte(s)"]),
     ):
-        command = ["sh", "-c", f"{inner} {middle} {program}"] if "-i" not in middle else [
-            "env", "-i", f"ASANCOL={suite.asancol}", f"ASANCOL_REPORT={REPORT}", "PATH=" + os.environ["PATH"], RUN, "-q", "--",
-            program]
-        expect_ran(run_real(suite, outer, "--", *command), status, *texts)
+        tools = f"ASANCOL={suite.asancol} ASANCOL_REPORT={REPORT} PATH={os.environ['PATH']}"
+        line = f"env -i {tools} {inner} -- {program}" if "-i" in middle else f"{inner} {middle} {program}"
+        expect_ran(run_real(suite, outer, "--", "sh", "-c", line), status, *texts)
     line = f"{inner} -- {program} && ! {inner} --leaks=no -- {suite.program} past 2> {folder}/err || exit 0; exit 5"
     ran = run_real(suite, "--leaks=yes", "--suppressions", f"{folder}/known", "--", "sh", "-c", line)
     expect_ran(ran, 0, "asancol: no reports, 2 suppressed; 2 processes in 3 runs", absent=["matched nothing"])
@@ -611,7 +611,8 @@ def tests(suite: Suite) -> None:
         ("suppressions", check_suppressed), ("variables", check_variables),
         ("lowered bounds", check_lowered), ("names of classes", check_names), ("short stacks", check_short_stacks),
         ("baseline", check_baseline), ("outputs", check_outputs),
-        ("outputs to descriptors", check_outputs_to_descriptors), ("nested", check_nested), ("nested options", check_nested_options), ("kept", check_kept),
+        ("outputs to descriptors", check_outputs_to_descriptors), ("nested", check_nested),
+        ("nested options", check_nested_options), ("kept", check_kept),
         ("folder removed", check_folder_removed), ("crash", check_crash), ("awaited", check_awaited),
         ("odd names", check_odd_names), ("small files", check_small_files), ("bad rules", check_bad_rules),
         ("killed in a file", check_killed_in_a_file),
