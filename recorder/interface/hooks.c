@@ -6,6 +6,7 @@
 #include "calls/plain.h"
 #include "shadow/globals.h"
 #include "heap/heap.h"
+#include "interface/reports.h"
 #include "leaks/leaks.h"
 #include "leaks/root_regions.h"
 #include "process/given.h"
@@ -100,4 +101,5 @@ const struct recorder_hooks asancol_hooks = {
 #endif
     .skipped = side_note_skipped,
     .leave = becoming_leave,
+    .reports = &reports,
 };

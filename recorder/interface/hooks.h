@@ -21,6 +21,7 @@
 struct sigaction;
 struct global;
 struct library;
+struct reports;
 
 /* What shared objects find in the program. They are built with the small libasancol_shared.a, whose functions do
    nothing where no recorder is there. */
@@ -84,6 +85,7 @@ struct recorder_hooks {
     void (*skipped)(uint64_t what);
     void (*child_forked)(int child);
     unsigned (*leave)(const struct target *target);
+    const struct reports *reports;
 };
 
 /* What is found of the C library (calls/library.h): there if anything is checked. */

@@ -9,6 +9,7 @@
 
 #include "interface/hooks.h"
 #include "interface/interface.h"
+#include "interface/reports.h"
 
 #ifdef IN_SHARED_OBJECT
 #define INTERFACE __attribute__((weak)) /* hidden: each shared object calls its own */
@@ -167,56 +168,75 @@ INTERFACE void __asan_report_error(void *place, void *frame, void *stack, void *
     note_range(is_store ? CODE_STORE : CODE_LOAD, (uintptr_t)address, size, (uintptr_t)place);
 }
 
-/* Reports: in this process there are none. */
+/* The report that the process is told of just now, as __asan_on_error and a callback may ask for it. */
+
+static const struct report *report_now(void)
+{
+    static const struct report none = {.description = ""};
+    const struct report *now = HAS_HOOK(reports) ? asancol_hooks.reports->now() : NULL;
+    return now != NULL ? now : &none;
+}
 
 INTERFACE int __asan_report_present(void)
 {
-    return 0;
+    return report_now()->description[0] != 0;
 }
 
-#define NO_REPORT(type, what, answer)                                                                                  \
+#define OF_REPORT(type, what, answer)                                                                                  \
     INTERFACE type __asan_get_report_##what(void)                                                                      \
     {                                                                                                                  \
+        const struct report *now = report_now();                                                                       \
         return answer;                                                                                                 \
     }
 
-NO_REPORT(void *, pc, NULL)
-NO_REPORT(void *, bp, NULL)
-NO_REPORT(void *, sp, NULL)
-NO_REPORT(void *, address, NULL)
-NO_REPORT(int, access_type, 0)
-NO_REPORT(size_t, access_size, 0)
-NO_REPORT(const char *, description, "")
+OF_REPORT(void *, pc, now->is_access ? (void *)now->instruction : NULL)
+OF_REPORT(void *, bp, now->is_access ? (void *)now->frame : NULL)
+OF_REPORT(void *, sp, now->is_access ? (void *)now->stack : NULL)
+OF_REPORT(void *, address, (void *)now->address)
+OF_REPORT(int, access_type, now->is_store)
+OF_REPORT(size_t, access_size, now->size)
+OF_REPORT(const char *, description, now->description)
 
 INTERFACE void __asan_describe_address(void *address)
 {
-    (void)address;
+    if (HAS_HOOK(reports))
+        asancol_hooks.reports->describe((uintptr_t)address);
 }
 
-/* AddressSanitizer's word for an address that it knows nothing of. */
 INTERFACE const char *__asan_locate_address(void *address, char *name, size_t name_size, void **region, size_t *size)
 {
-    (void)address;
+    uintptr_t start = 0;
+    size_t length = 0;
+    const char *found = "heap-invalid"; /* AddressSanitizer's word for an address that it knows nothing of */
     if (name != NULL && name_size != 0)
         name[0] = 0;
+    if (HAS_HOOK(reports))
+        found = asancol_hooks.reports->locate((uintptr_t)address, name, name_size, &start, &length);
     if (region != NULL)
-        *region = NULL;
+        *region = (void *)start;
     if (size != NULL)
-        *size = 0;
-    return "heap-invalid";
+        *size = length;
+    return found;
 }
 
-#define NO_STACK(what)                                                                                                 \
-    INTERFACE size_t __asan_get_##what##_stack(void *address, void **frames, size_t size, int *thread)                 \
-    {                                                                                                                  \
-        (void)address, (void)frames, (void)size;                                                                       \
-        if (thread != NULL)                                                                                            \
-            *thread = 0;                                                                                               \
-        return 0;                                                                                                      \
-    }
+static size_t stack_of(void *address, bool of_free, void **frames, size_t size, int *thread)
+{
+    if (thread != NULL)
+        *thread = 0;
+    return HAS_HOOK(reports) ? asancol_hooks.reports->stack_of((uintptr_t)address, of_free, (uintptr_t *)frames, size,
+                                                               thread)
+                             : 0;
+}
 
-NO_STACK(alloc)
-NO_STACK(free)
+INTERFACE size_t __asan_get_alloc_stack(void *address, void **frames, size_t size, int *thread)
+{
+    return stack_of(address, false, frames, size, thread);
+}
+
+INTERFACE size_t __asan_get_free_stack(void *address, void **frames, size_t size, int *thread)
+{
+    return stack_of(address, true, frames, size, thread);
+}
 
 INTERFACE void __asan_get_shadow_mapping(size_t *scale, size_t *offset)
 {
@@ -258,11 +278,11 @@ INTERFACE void __sanitizer_set_death_callback(void (*callback)(void))
     note_death_callback(callback);
 }
 
-/* Never called: a report's text is the collector's. */
-
+/* Called with the text of each report, as the process is told of it. */
 INTERFACE void __asan_set_error_report_callback(void (*callback)(const char *))
 {
-    (void)callback;
+    if (HAS_HOOK(reports))
+        asancol_hooks.reports->set_callback(callback);
 }
 
 /* The first thread that asks may treat the crash. */
@@ -273,9 +293,11 @@ INTERFACE int __sanitizer_acquire_crash_state(void)
 
 /* What a program may define itself. asan_options.c calls those of them that answer a text. */
 
-INTERFACE void __asan_on_error(void)
+static void no_error(void)
 {
 }
+
+INTERFACE void __asan_on_error(void) __attribute__((alias("no_error")));
 
 #define NO_TEXT(name)                                                                                                  \
     INTERFACE const char *name(void)                                                                                   \
@@ -293,19 +315,24 @@ INTERFACE int __lsan_is_turned_off(void)
     return 0;
 }
 
-/* Output: nothing is written. */
+/* Output: what the program asks to be printed. Reports are the collector's. */
 
 INTERFACE void __sanitizer_set_report_path(const char *path)
 {
-    (void)path;
+    if (HAS_HOOK(reports))
+        asancol_hooks.reports->set_path(path);
 }
 
 INTERFACE void __sanitizer_set_report_fd(void *descriptor)
 {
-    (void)descriptor;
+    if (HAS_HOOK(reports))
+        asancol_hooks.reports->set_descriptor((int)(uintptr_t)descriptor);
 }
 
-NO_TEXT(__sanitizer_get_report_path)
+INTERFACE const char *__sanitizer_get_report_path(void)
+{
+    return HAS_HOOK(reports) ? asancol_hooks.reports->path() : "";
+}
 
 INTERFACE void __sanitizer_report_error_summary(const char *summary)
 {
@@ -314,6 +341,8 @@ INTERFACE void __sanitizer_report_error_summary(const char *summary)
 
 INTERFACE void __sanitizer_print_stack_trace(void)
 {
+    if (HAS_HOOK(reports))
+        asancol_hooks.reports->print_stack(CALLER());
 }
 
 INTERFACE void __sanitizer_print_memory_profile(size_t percent, size_t contexts)
@@ -352,11 +381,17 @@ INTERFACE void __sanitizer_symbolize_global(void *data, const char *format, char
 
 INTERFACE int __sanitizer_get_module_and_offset_for_pc(void *place, char *path, size_t room, void **offset)
 {
-    (void)place;
-    no_symbol(path, room);
+    char none[1];
+    uintptr_t found = 0;
+    bool has_room = path != NULL && room != 0;
+    bool is_found = HAS_HOOK(reports)
+                    && asancol_hooks.reports->module((uintptr_t)place, has_room ? path : none,
+                                                     has_room ? room : sizeof none, &found);
+    if (!is_found)
+        no_symbol(path, room);
     if (offset != NULL)
-        *offset = NULL;
-    return 0;
+        *offset = (void *)found;
+    return is_found;
 }
 
 /* Fibers: which stack a thread is on. A fake stack stays with its thread. */
@@ -478,6 +513,8 @@ INTERFACE int __sanitizer_ignore_free_hook(const volatile void *start) __attribu
 
 void interface_start(void)
 {
+    if (__asan_on_error != no_error)
+        reports_call_on_error(__asan_on_error);
     bool has_malloc = __sanitizer_malloc_hook != no_malloc_hook, has_free = __sanitizer_free_hook != no_free_hook;
     bool has_ignore = __sanitizer_ignore_free_hook != no_ignore_hook;
     if (has_malloc || has_free || has_ignore)

@@ -67,6 +67,10 @@ void halt_at(enum code code, unsigned width, uint64_t address, uintptr_t caller,
         record(code, width, address, caller, whole);
     recorder_finish(FINISH_CLOSED);
     say_where(code, address);
+    if (is_telling() && code == CODE_FREE)
+        above.tell(&(struct told){.code = code, .caller = caller, .address = address, .call = whole->call});
+    else if (is_telling())
+        record_tell(code, width, address, caller, whole);
     void (*callback)(void) = atomic_load(&death_callback);
     halt_is_first_crash();
     if (callback != NULL)

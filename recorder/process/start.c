@@ -10,6 +10,7 @@
 #include "heap/book.h"
 #include "heap/heap.h"
 #include "interface/interface.h"
+#include "interface/reports.h"
 #include "leaks/leaks.h"
 #include "process/aside.h"
 #include "process/beginning.h"
@@ -147,4 +148,6 @@ const struct above above = {
     .has_frame = stack_has_frame,
     .is_own_frame = stack_is_own_frame,
     .halt_at = halt_at,
+    .tell = reports_tell,
+    .tell_waiting = reports_tell_waiting,
 };

@@ -101,6 +101,9 @@ void finding_note(const struct finding *finding)
         fault_end(list_window(list));
         /* The stream may have gone on in its next segment: who has read this one may have missed it. */
     } while (atomic_load(&STREAM->segment) != segment);
+    if (is_telling() && !is_leak(finding) && has_side())
+        above.tell(&(struct told){.finding = finding->kind, .caller = call_site_address(finding->call_site),
+                                  .address = finding->start, .size = finding->size, .call = finding->call});
     errno = before;
 }
 

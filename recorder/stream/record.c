@@ -6,6 +6,18 @@
 #include "stream/side.h"
 #include "stream/state.h"
 
+__attribute__((noinline, cold)) void record_tell(enum code code, unsigned width, uint64_t address, uintptr_t caller,
+                                                 const struct access *whole)
+{
+    struct told told = {.code = code, .caller = caller, .address = address, .size = width};
+    if (whole != NULL) {
+        told.size = whole->size;
+        told.call = whole->call;
+        told.address = whole->call != NULL ? shadow_first_bad(address, width) : whole->start;
+    }
+    above.tell(&told);
+}
+
 /* The widest access at an address that is a multiple of its width, of so many bytes. */
 static unsigned piece_at(uint64_t address, uint64_t size)
 {

@@ -31,6 +31,17 @@ static inline void halt_if_bad(enum code code, unsigned width, uint64_t address,
         above.halt_at(code, width, address, caller, whole);
 }
 
+/* Tells the program of a bad piece of an access. */
+void record_tell(enum code code, unsigned width, uint64_t address, uintptr_t caller, const struct access *whole)
+    OWN_NAME(record_tell);
+
+static inline void tell_if_bad(enum code code, unsigned width, uint64_t address, uintptr_t caller,
+                               const struct access *whole)
+{
+    if (is_telling() && shadow_is_bad(address, width))
+        record_tell(code, width, address, caller, whole);
+}
+
 /* A piece of an access; `whole` is null if it is all of it. */
 static inline void record_piece_of(enum code code, unsigned width, uint64_t address, uintptr_t caller,
                                    struct access *whole)
@@ -59,6 +70,7 @@ static inline void record_piece_of(enum code code, unsigned width, uint64_t addr
         else
             put_access(stream->bytes + (uint32_t)cursor, code_and_width, address);
     }
+    tell_if_bad(code, width, address, caller, whole);
     halt_if_bad(code, width, address, caller, whole);
 }
 

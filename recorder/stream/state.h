@@ -20,6 +20,7 @@
 #include "common/format.h"
 #include "process/settings.h"
 #include "stream/access.h"
+#include "stream/telling.h"
 
 enum state {
     STATE_UNSTARTED,
@@ -149,6 +150,9 @@ struct above {
     bool (*is_own_frame)(uintptr_t frame);
     /* Ends the recording and the process, unless another thread is doing so: then it returns. */
     void (*halt_at)(enum code code, unsigned width, uint64_t address, uintptr_t caller, struct access *whole);
+    /* Tells the program, now or once this thread has left the allocator. */
+    void (*tell)(const struct told *told);
+    void (*tell_waiting)(void);
 };
 
 extern const struct above above OWN_NAME(above); /* start.c */

@@ -214,4 +214,6 @@ void record_bad_free(uint64_t address, uintptr_t caller, const char *call)
     } while (!is_done);
     if (at != NULL)
         stream_look_at_clock(true);
+    if (is_telling())
+        above.tell(&(struct told){.code = CODE_FREE, .caller = caller, .address = address, .call = call});
 }

@@ -535,6 +535,22 @@ def check_kept_blocks(suite: Suite, folder: str, compiler: Compiler) -> None:
         os.unlink(f"{folder}/t.trace")
 
 
+def check_told(suite: Suite, folder: str, compiler: Compiler, argv: Sequence[str]) -> None:
+    """What a program is told of reports, and learns of addresses, is what AddressSanitizer says."""
+    flags = ["-w", "-g", "-O0", "-fno-builtin"]
+    compiler.c(folder, [f"{TESTS}/told.c"], f"{folder}/told", *flags)
+    compiler.c(folder, [f"{TESTS}/told.c"], f"{folder}/sanitized", *flags, "-fsanitize=address",
+               "-fsanitize-recover=address", native=True)
+    said = run(["./sanitized", *argv], folder, ASAN_OPTIONS="detect_leaks=0:halt_on_error=0").stdout
+    ran = run(["./told", *argv], folder, ASANCOL_TRACE="t.trace", ASANCOL_WHERE="1")
+    expect((ran.returncode, ran.stdout), (0, said), "what it prints")
+    expect(b"callback: 1, " in said, True, said)
+    lines = ran.stderr.decode().splitlines()
+    expect([it[:9] for it in lines if it], [] if argv else [f"    #{it} 0x" for it in range(len(lines) - 1)], "a stack")
+    if not argv:
+        expect([" in __sanitizer_print_stack_trace (" in lines[0], f" ({folder}/told+0x" in lines[1]], [True] * 2, lines)
+
+
 GROWING = """
 #include <stdlib.h>
 #include <sanitizer/common_interface_defs.h>
@@ -572,6 +588,9 @@ def sound_tests(suite: Suite, compiler: Compiler) -> None:
     suite.test(f"{compiler} second allocator", check_second_allocator, compiler)
     suite.test(f"{compiler} interface", check_interface, compiler)
     suite.test(f"{compiler} interface: kept blocks", check_kept_blocks, compiler)
+    if compiler.has_sanitizer:
+        for argv in ([], ["double"], ["bad"]):
+            suite.test(f"{compiler} interface: told of reports {' '.join(argv)}", check_told, compiler, argv)
     suite.test(f"{compiler} growing container", check_growing, compiler)
     suite.test(f"{compiler} interface: hooks and other names", check_asked_for, compiler)
 

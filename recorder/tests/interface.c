@@ -168,12 +168,12 @@ static void reports(char *block)
     WANT(__asan_get_report_address() == NULL && __asan_get_report_access_type() == 0);
     WANT(__asan_get_report_access_size() == 0 && strlen(__asan_get_report_description()) == 0);
     WANT(__asan_locate_address(block, name, sizeof name, &start, &size) != NULL);
+    __sanitizer_set_report_fd((void *)2);
+    __sanitizer_set_report_path("asancol.report");
+    WANT(__sanitizer_get_report_path() != NULL);
     __asan_describe_address(block);
     __asan_report_error(__builtin_return_address(0), NULL, NULL, block, 0, 4);
     __sanitizer_report_error_summary("none");
-    __sanitizer_set_report_path("asancol.report");
-    __sanitizer_set_report_fd((void *)2);
-    WANT(__sanitizer_get_report_path() != NULL);
     __sanitizer_print_stack_trace();
     __sanitizer_print_memory_profile(100, 10);
     __asan_print_accumulated_stats();
