@@ -114,9 +114,14 @@ enum finding_kind {
     FINDING_ALIGNMENT,     /* there is no such alignment, or the size is no multiple of it */
     FINDING_TOO_BIG,       /* no block can have this size */
     FINDING_NOT_OWNED,     /* it is asked how large a block is, and none begins there */
-    FINDING_OTHER_ALIGNMENT /* a delete says another alignment than the new of its block, and maybe another size */
+    FINDING_OTHER_ALIGNMENT, /* a delete says another alignment than the new of its block, and maybe another size */
+    FINDING_CONTAINER,     /* the bytes in use of a container are said to lie outside it */
+    FINDING_DOUBLE_ENDED,  /* likewise of one with two ends */
+    FINDING_POINTERS,      /* two pointers into different objects are compared, or one is subtracted from the other */
+    FINDING_NO_MEMORY,     /* there is none for a block */
+    FINDING_ODR            /* two modules have defined one global */
 };
-enum { FINDING_LAST = FINDING_OTHER_ALIGNMENT };
+enum { FINDING_LAST = FINDING_ODR };
 
 enum { SIDE_ARGV = 4000, SIDE_BUILD_COUNT = 112, SIDE_ID = 23, SIDE_FAULTS = 1 << 16, SIDE_THREADS = 1 << 12 };
 enum { SIDE_NAME = 120, SIDE_CALL = 32, SIDE_THREAD_NAME = 16, SIDE_CHILDREN = 32 };
@@ -248,7 +253,8 @@ struct side_found {
     uint64_t count; /* how often it came up; of a leak how many blocks are lost */
     uint64_t after; /* how many events there were before it came up first */
     uint64_t other; /* of an overlap, where the other range begins; of an overflow, what the size is to be taken
-                       times; of another alignment, that of the new */
+                       times; of another alignment, that of the new; of a container, what lies outside it; of two
+                       pointers, the second */
 };
 
 /* What was seen when an access or a free was bad by the recorder's shadow; or a finding. */
@@ -273,7 +279,8 @@ struct side_fault {
     uint64_t frame;        /* where the frame of a variable begins */
     uint64_t function;     /* an address in the function of that frame; 0: not known */
     uint32_t variables;    /* what the compiler says of that frame: a word with how many bytes, and then the text,
-                              among the stacks; 0: not kept */
+                              among the stacks; 0: not kept. Of a global that was defined twice, the name of the
+                              other definition */
     uint32_t kind;         /* enum finding_kind */
     union {
         unsigned char shadow[SIDE_SHADOW];

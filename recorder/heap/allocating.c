@@ -252,8 +252,8 @@ static __attribute__((noinline)) void *allocate_slowly(size_t size, size_t align
                                                        const struct use *use)
 {
     void *address = NULL;
-    bool fits = size <= PTRDIFF_MAX - UNIT && alignment <= MAX_ALIGNMENT;
-    if (fits && heap_enter()) {
+    bool fits = size <= PTRDIFF_MAX - UNIT && alignment <= MAX_ALIGNMENT, has_entered = fits && heap_enter();
+    if (has_entered) {
         address = allocate_entered(size, alignment, from, use);
         if (address != NULL && zeroed && is_small(size, alignment))
             program_clear(address, size);
@@ -262,8 +262,8 @@ static __attribute__((noinline)) void *allocate_slowly(size_t size, size_t align
     } else if (fits && (address = spare_take(size, alignment)) != NULL) {
         side_note_skipped(SKIPPED_SPARE); /* it is zeros */
     }
-    if (address == NULL && size > MAX_REQUEST && use->family == FAMILY_MALLOC)
-        families_note_too_big(size, from.caller);
+    if (address == NULL && (size > MAX_REQUEST || has_entered))
+        families_note_refused(size, from.caller, use->family, size > MAX_REQUEST);
     if (address == NULL)
         errno = ENOMEM;
     return address;

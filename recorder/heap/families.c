@@ -168,8 +168,22 @@ void families_look_at(const struct block *block, const struct release *release)
     });
 }
 
-void families_note_too_big(size_t size, uintptr_t caller)
+static _Atomic bool requests_are_checked;
+
+void heap_check_requests(bool is_on)
 {
-    if (!may_be_operator(caller))
-        finding_note_call(&(struct wrong_call){.kind = FINDING_TOO_BIG, .caller = caller, .size = size});
+    atomic_store(&requests_are_checked, is_on);
+}
+
+bool requests_are_noted(void)
+{
+    return atomic_load_explicit(&requests_are_checked, memory_order_relaxed);
+}
+
+void families_note_refused(size_t size, uintptr_t caller, enum family family, bool is_too_big)
+{
+    bool is_known_caller = family == FAMILY_MALLOC ? !may_be_operator(caller) : family != FAMILY_ANY;
+    if (is_known_caller && requests_are_noted())
+        finding_note_call(&(struct wrong_call){.kind = is_too_big ? FINDING_TOO_BIG : FINDING_NO_MEMORY,
+                                               .caller = caller, .size = size});
 }

@@ -3,10 +3,12 @@
 #ifndef ASANCOL_FAMILIES_H
 #define ASANCOL_FAMILIES_H
 
+#include <stdbool.h>
 #include <stddef.h>
 #include <stdint.h>
 
 #include "heap/arena.h"
+#include "heap/family.h"
 
 /* How a block is freed. */
 struct release {
@@ -20,8 +22,10 @@ struct release {
 bool families_differ(const struct block *block, const struct release *release);
 void families_look_at(const struct block *block, const struct release *release);
 
-/* Notes that more is asked for than there can be, but of an operator: that throws, or answers null. Without the
-   lock. */
-void families_note_too_big(size_t size, uintptr_t caller);
+/* Notes that a block is refused, since it is larger than any can be, or since there is no memory. Nothing of an operator
+   that nobody has announced: what that does is not known. Without the lock. */
+void families_note_refused(size_t size, uintptr_t caller, enum family family, bool is_too_big);
+/* Whether such requests are noted (heap_check_requests). */
+bool requests_are_noted(void);
 
 #endif

@@ -56,6 +56,8 @@ void heap_operator_ends(void) OWN_NAME(heap_operator_ends);
 bool heap_is_called_by_operator(void);
 /* Whether a free of another family is noted; and a delete with another size or alignment. */
 void heap_check_families(bool families, bool sizes);
+/* Whether a request is noted that can't be met. */
+void heap_check_requests(bool is_on);
 
 /* The call sites of mallocs and frees are noted from now on. */
 void heap_keep_call_sites(void);

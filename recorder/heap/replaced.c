@@ -6,6 +6,7 @@
 
 #include "base/behind.h"
 #include "heap/blocks.h"
+#include "heap/families.h"
 #include "heap/heap.h"
 #include "base/own_code.h"
 #include "base/platform.h"
@@ -32,9 +33,12 @@ void heap_own_free(void *pointer)
 
 REPLACES void free(void *pointer) __attribute__((alias("heap_own_free")));
 
+/* What is refused, unless that is no mistake. */
 static __attribute__((noinline, cold)) void note(enum finding_kind kind, const char *call, uintptr_t caller,
                                                  struct wrong_call given)
 {
+    if (kind != FINDING_NOT_OWNED && !requests_are_noted())
+        return;
     given.kind = kind;
     given.call = call;
     given.caller = caller;

@@ -138,11 +138,30 @@ CALLBACK void __asan_version_mismatch_check_v8(void)
 {
 }
 
+/* Round the initialisers of a file in C++. */
+
 CALLBACK void __asan_before_dynamic_init(const char *module)
 {
-    (void)module;
+    if (HAS_HOOK(before_init))
+        asancol_hooks.before_init(module);
 }
 
 CALLBACK void __asan_after_dynamic_init(void)
 {
+    if (HAS_HOOK(after_init))
+        asancol_hooks.after_init();
+}
+
+/* By -fsanitize=pointer-compare and pointer-subtract. */
+
+CALLBACK void __sanitizer_ptr_cmp(uintptr_t one, uintptr_t other)
+{
+    if (HAS_HOOK(pair))
+        asancol_hooks.pair(one, other, CALLER());
+}
+
+CALLBACK void __sanitizer_ptr_sub(uintptr_t one, uintptr_t other)
+{
+    if (HAS_HOOK(pair))
+        asancol_hooks.pair(one, other, CALLER());
 }

@@ -6,6 +6,9 @@
 #include "calls/plain.h"
 #include "shadow/globals.h"
 #include "heap/heap.h"
+#include "interface/init_order.h"
+#include "interface/odr.h"
+#include "interface/pairs.h"
 #include "interface/reports.h"
 #include "leaks/leaks.h"
 #include "leaks/root_regions.h"
@@ -57,7 +60,7 @@ const struct recorder_hooks asancol_hooks = {
     .frames_left = stack_frames_left,
     .on_death = halt_on_death,
     .is_first_crash = halt_is_first_crash,
-    .globals = globals_note,
+    .globals = odr_globals_note,
     .aborts = signals_note_abort,
     .stack_switches = stack_switches,
     .stack_begins = stack_begins,
@@ -102,4 +105,7 @@ const struct recorder_hooks asancol_hooks = {
     .skipped = side_note_skipped,
     .leave = becoming_leave,
     .reports = &reports,
+    .before_init = init_order_before,
+    .after_init = init_order_after,
+    .pair = pair_look,
 };

@@ -86,6 +86,9 @@ struct recorder_hooks {
     void (*child_forked)(int child);
     unsigned (*leave)(const struct target *target);
     const struct reports *reports;
+    void (*before_init)(const char *module);
+    void (*after_init)(void);
+    void (*pair)(uintptr_t one, uintptr_t other, uintptr_t caller);
 };
 
 /* What is found of the C library (calls/library.h): there if anything is checked. */

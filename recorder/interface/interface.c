@@ -50,6 +50,20 @@ static void poison_as_container(uintptr_t from, uintptr_t to)
         note_poison_as(SHADE_CONTAINER, from, to - from);
 }
 
+/* Whether one of the places in a container lies outside it, which is noted. */
+static bool lies_outside(enum finding_kind kind, uintptr_t start, uintptr_t end, const uintptr_t places[4],
+                         uintptr_t caller)
+{
+    for (int i = 0; i < 4; i++) {
+        if (start <= places[i] && places[i] <= end)
+            continue;
+        note_wrong_call(&(struct wrong_call){.kind = kind, .caller = caller, .start = start, .size = end - start,
+                                             .other = places[i]});
+        return true;
+    }
+    return false;
+}
+
 /* A container owns the bytes from `start` up to `end`, and those from `new_middle` on are not in use. It may call this
    for each element: so what lies neither between both middles nor in a granule of theirs is left as it is, as with
    AddressSanitizer. */
@@ -57,6 +71,9 @@ INTERFACE void __sanitizer_annotate_contiguous_container(const void *start, cons
                                                          const void *new_middle)
 {
     uintptr_t before = (uintptr_t)old_middle, middle = (uintptr_t)new_middle;
+    if (lies_outside(FINDING_CONTAINER, (uintptr_t)start, (uintptr_t)end, (uintptr_t[]){before, middle, before, middle},
+                     CALLER()))
+        return;
     uintptr_t low = greatest(least(before, middle) / GRANULE * GRANULE, (uintptr_t)start);
     uintptr_t high = least((greatest(before, middle) + GRANULE - 1) / GRANULE * GRANULE, (uintptr_t)end);
     if (low < middle)
@@ -70,6 +87,10 @@ INTERFACE void __sanitizer_annotate_double_ended_contiguous_container(const void
                                                                       const void *old_first, const void *old_last,
                                                                       const void *new_first, const void *new_last)
 {
+    if (lies_outside(FINDING_DOUBLE_ENDED, (uintptr_t)start, (uintptr_t)end,
+                     (uintptr_t[]){(uintptr_t)old_first, (uintptr_t)old_last, (uintptr_t)new_first, (uintptr_t)new_last},
+                     CALLER()))
+        return;
     bool was_empty = old_first == old_last, is_empty = new_first == new_last;
     uintptr_t first = (uintptr_t)new_first / GRANULE * GRANULE, last = (uintptr_t)new_last;
     uintptr_t low = was_empty ? first : (uintptr_t)old_first, high = was_empty ? last : (uintptr_t)old_last;
@@ -437,15 +458,25 @@ INTERFACE int __sanitizer_get_ownership(const volatile void *start)
     return live_size(start) != SIZE_MAX;
 }
 
-INTERFACE size_t __sanitizer_get_allocated_size(const volatile void *start)
+static size_t allocated_size(const volatile void *start, uintptr_t caller)
 {
     size_t size = live_size(start);
-    return size != SIZE_MAX ? size : 0;
+    if (size != SIZE_MAX)
+        return size;
+    if (start != NULL)
+        note_wrong_call(&(struct wrong_call){.kind = FINDING_NOT_OWNED, .caller = caller,
+                                             .call = "__sanitizer_get_allocated_size", .start = (uintptr_t)start});
+    return 0;
+}
+
+INTERFACE size_t __sanitizer_get_allocated_size(const volatile void *start)
+{
+    return allocated_size(start, CALLER());
 }
 
 INTERFACE size_t __sanitizer_get_allocated_size_fast(const volatile void *start)
 {
-    return __sanitizer_get_allocated_size(start);
+    return allocated_size(start, CALLER());
 }
 
 INTERFACE const void *__sanitizer_get_allocated_begin(const void *inside)

@@ -66,6 +66,8 @@ static const char *class_of_shade(unsigned char shade)
         return "dynamic-stack-buffer-overflow";
     case SHADE_GLOBAL:
         return "global-buffer-overflow";
+    case SHADE_UNINITIALISED:
+        return "initialization-order-fiasco";
     case SHADE_HEAP:
     case SHADE_COOKIE:
         return "heap-buffer-overflow";
@@ -107,6 +109,16 @@ static const char *class_of_finding(const struct told *told)
         return "invalid-allocation-alignment";
     case FINDING_TOO_BIG:
         return "allocation-size-too-big";
+    case FINDING_NO_MEMORY:
+        return "out-of-memory";
+    case FINDING_ODR:
+        return "odr-violation";
+    case FINDING_POINTERS:
+        return "invalid-pointer-pair";
+    case FINDING_CONTAINER:
+        return "bad-__sanitizer_annotate_contiguous_container";
+    case FINDING_DOUBLE_ENDED:
+        return "bad-__sanitizer_annotate_double_ended_contiguous_container";
     case FINDING_NOT_OWNED:
         text_put(&text, "bad-");
         break;

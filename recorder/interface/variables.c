@@ -23,10 +23,10 @@ CALLBACK void __asan_register_globals(const struct global *globals, uintptr_t co
     shadow_map();
     if (count == 0 || is_registered(globals))
         return;
+    note_globals(globals, count, true); /* it looks for redzones of others */
     for (uintptr_t i = 0; i < count; i++)
         shadow_poison(globals[i].start + globals[i].size, globals[i].size_with_redzone - globals[i].size, SHADE_GLOBAL);
     shadow_poison((uintptr_t)globals, count * sizeof *globals, SHADE_GLOBAL);
-    note_globals(globals, count, true);
 }
 
 /* A destructor calls this, and others come after it, so what the module has itself stays up to its last one. */

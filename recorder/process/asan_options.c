@@ -39,6 +39,15 @@ bool asan_options_say(enum asan_option option, bool otherwise)
     return otherwise ? !asan_is_no(&word) : asan_is_yes(&word);
 }
 
+uint64_t asan_options_level(enum asan_option option, uint64_t most, uint64_t otherwise)
+{
+    struct asan_word word;
+    uint64_t level;
+    if (!find(option, &word) || !asan_number(&word, &level))
+        return otherwise;
+    return level > most ? most : level;
+}
+
 uint64_t asan_options_hold(uint64_t most, uint64_t otherwise)
 {
     struct asan_word word;

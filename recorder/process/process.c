@@ -54,6 +54,11 @@ bool recorder_waits_for_checks(void)
     return recorder_waits() && process.settings.halt != HALT_AND_RECORD;
 }
 
+const struct settings *recorder_settings(void)
+{
+    return &process.settings;
+}
+
 bool recorder_halts(void)
 {
     return process.settings.halt != HALT_NEVER;
@@ -123,6 +128,7 @@ static bool begin(uint64_t most_held)
     if (process.settings.with_side)
         heap_keep_call_sites();
     heap_check_families(process.settings.mismatches, process.settings.other_sizes);
+    heap_check_requests(!process.settings.may_return_null);
     if (!open_stream())
         return false;
     heap_set_bound(process.settings.quarantine);

@@ -6,6 +6,8 @@
 
 #include "stream/tail.h"
 
+struct settings;
+
 /* Begins the stream, unless that was done. */
 void recorder_start(void);
 /* Forks of the process are seen from now on. */
@@ -23,6 +25,8 @@ bool recorder_waits_for_checks(void);
 bool recorder_end_waiting(void);
 /* Says to a hub why it will not see this process, if it will not. */
 void recorder_say_who(void);
+/* What the settings are; zeros before the start. */
+const struct settings *recorder_settings(void);
 /* Whether the process ends at its first fault, by its settings. */
 bool recorder_halts(void);
 /* The hub that this process has by its settings, or null; also if it does not connect there. */

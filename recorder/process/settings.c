@@ -22,7 +22,8 @@ static const char *const names[] = {
     "ASANCOL_LIMIT",    "ASANCOL_PATIENCE", "ASANCOL_LOG",    "ASANCOL_ALL",   "ASANCOL_HALT",
     "ASANCOL_STOP",     "ASANCOL_REPORT",   "ASANCOL_SYMBOLIZER",              "ASANCOL_SEGMENTS",
     "ASANCOL_LEAKS",    "ASANCOL_MISMATCHES", "ASANCOL_USE_AFTER_RETURN",     "ASANCOL_LIBRARIES",
-    "ASANCOL_FULL",     "ASANCOL_OUTER",   "ASANCOL_RUN",
+    "ASANCOL_FULL",     "ASANCOL_OUTER",   "ASANCOL_RUN",      "ASANCOL_ODR",
+    "ASANCOL_INIT_ORDER", "ASANCOL_POINTER_PAIRS",              "ASANCOL_MAY_RETURN_NULL",
 #define FRONT(name, end, variable, usual, has_new, links_libm) variable,
 #include "wrapper/fronts.def"
 };
@@ -240,6 +241,20 @@ static void read_options_of_asan(struct settings *settings)
     settings->other_sizes = mismatches && asan_options_say(ASAN_new_delete_type_mismatch, true);
 }
 
+/* Likewise, classes that are on or off by default as there. */
+static void read_classes(struct settings *settings)
+{
+    bool looks_at_order = asan_options_say(ASAN_check_initialization_order, false);
+    uint64_t order = looks_at_order ? 1 + asan_options_say(ASAN_strict_init_order, false) : 0;
+    uint64_t odr = asan_options_level(ASAN_detect_odr_violation, 2, 2);
+    uint64_t pairs = asan_options_level(ASAN_detect_invalid_pointer_pairs, 2, 0);
+    uint64_t may_return_null = asan_options_say(ASAN_allocator_may_return_null, false);
+    settings->odr = (int)number_of("ASANCOL_ODR", 0, 2, odr);
+    settings->init_order = (int)number_of("ASANCOL_INIT_ORDER", 0, 2, order);
+    settings->pointer_pairs = (int)number_of("ASANCOL_POINTER_PAIRS", 0, 2, pairs);
+    settings->may_return_null = number_of("ASANCOL_MAY_RETURN_NULL", 0, 1, may_return_null) == 1;
+}
+
 void settings_read(struct settings *settings)
 {
     static AS_TABLE struct entry log;
@@ -254,5 +269,6 @@ void settings_read(struct settings *settings)
     settings->with_side = number_of("ASANCOL_WHERE", 0, 1, 0) == 1 || settings->hub != NULL;
     settings->is_full = number_of("ASANCOL_FULL", 0, 1, settings->hub == NULL) == 1;
     read_options_of_asan(settings);
+    read_classes(settings);
     settings->checks_libraries = number_of("ASANCOL_LIBRARIES", 0, 1, 1) == 1;
 }

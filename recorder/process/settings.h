@@ -28,6 +28,10 @@ struct settings {
     bool is_full; /* each malloc and free is recorded */
     bool mismatches; /* a free by another family of functions is noted, */
     bool other_sizes; /* and one with another size or alignment */
+    /* As AddressSanitizer's detect_odr_violation and detect_invalid_pointer_pairs; 1: check_initialization_order, and
+       2: with strict_init_order. */
+    int odr, pointer_pairs, init_order;
+    bool may_return_null; /* where memory is refused, that is no mistake */
     enum halt halt;
     bool checks_libraries; /* what plain libraries call, too */
     const char *passed_over; /* the hub that the environment names beside a trace, or null */

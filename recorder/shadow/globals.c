@@ -14,7 +14,7 @@ enum { ENTRIES = 100 };
 /* So far from a table an address may be nearest to one of its globals. */
 enum { REACH = 256 };
 /* So many globals are read at a time. */
-enum { AT_ONCE = 4 };
+enum { AT_ONCE = 4, VISITED_AT_ONCE = 64 };
 
 struct entry {
     const struct global *_Atomic table;
@@ -161,4 +161,25 @@ bool globals_find(uint64_t address, struct global *nearest)
         for (uint32_t i = 0; i < ENTRIES; i++)
             look_at(&page->entries[i], address, nearest, &least);
     return least != UINT64_MAX;
+}
+
+static void visit_table(const struct entry *entry, void visit(const struct global *global, void *with), void *with)
+{
+    struct global globals[VISITED_AT_ONCE];
+    uint64_t count = atomic_load_explicit(&entry->count, memory_order_acquire);
+    uint64_t from = (uintptr_t)atomic_load(&entry->table);
+    for (uint64_t i = 0, more; i < count; i += more) {
+        more = count - i < VISITED_AT_ONCE ? count - i : VISITED_AT_ONCE;
+        if (!memory_read(from + i * sizeof *globals, globals, more * sizeof *globals))
+            return;
+        for (uint64_t k = 0; k < more; k++)
+            visit(&globals[k], with);
+    }
+}
+
+void globals_each(void visit(const struct global *global, void *with), void *with)
+{
+    for (struct page *page = &first; page != NULL; page = atomic_load(&page->next))
+        for (uint32_t i = 0; i < ENTRIES; i++)
+            visit_table(&page->entries[i], visit, with);
 }

@@ -31,4 +31,7 @@ bool globals_may_have(uint64_t address);
 /* The global that is nearest to an address in it or in a redzone. False: there is none. Its name may be gone. */
 bool globals_find(uint64_t address, struct global *nearest);
 
+/* Visits all that are registered: copies. */
+void globals_each(void visit(const struct global *global, void *with), void *with);
+
 #endif

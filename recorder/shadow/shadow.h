@@ -69,6 +69,7 @@ enum {
     SHADE_USER = 0xf7,
     SHADE_SCOPE = 0xf8,
     SHADE_GLOBAL = 0xf9,
+    SHADE_UNINITIALISED = 0xf6, /* a global of another file that has no value yet (interface/init_order.c) */
     SHADE_CONTAINER = 0xfc,
     SHADE_FIELD = 0xbb, /* between the fields of a class */
     SHADE_COOKIE = 0xac,

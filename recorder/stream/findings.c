@@ -38,6 +38,7 @@ static struct side_fault entry_for(struct list *list, const struct finding *find
     entry.allocated = call_site_address(finding->allocated);
     entry.allocated_stack = list_put_stack(list, finding->allocated);
     entry.allocated_thread = call_site_thread(finding->allocated);
+    entry.variables = finding->other_name != NULL ? list_put_text(list, finding->other_name) : 0;
     entry.found.other = finding->other;
     entry.found.after = events_now();
     fault_list_put_call(entry.call, finding->call);

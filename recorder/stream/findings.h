@@ -13,7 +13,8 @@ struct finding {
     enum finding_kind kind;
     call_site call_site;    /* of the call; of a leak, of the malloc */
     const char *call;       /* the function that was called; null: the program itself */
-    const char *name;       /* what has allocated the block, in words; or null */
+    const char *name;       /* what has allocated the block, in words; or null; of a global its name */
+    const char *other_name; /* of a global, that of its other definition; else null */
     uint64_t block;         /* the block that it is about: its start, its size, and its malloc's call site; 0: none */
     uint64_t block_size;
     call_site allocated;

@@ -93,6 +93,19 @@ void list_show_words(struct list *list, uint32_t end)
     list_raise((_Atomic uint32_t *)&((struct side *)list_bytes(list))->stack_words, end);
 }
 
+uint32_t list_put_text(struct list *list, const char *text)
+{
+    size_t length = strlen(text) < SIDE_TEXT ? strlen(text) : SIDE_TEXT;
+    uint32_t number, count = 1 + (uint32_t)((length + sizeof(uint64_t) - 1) / sizeof(uint64_t));
+    uint64_t *words = list_take_words(list, count, &number);
+    if (words == NULL)
+        return 0;
+    words[0] = length;
+    memcpy(words + 1, text, length);
+    list_show_words(list, number + count);
+    return number;
+}
+
 uint32_t list_put_stack(struct list *list, call_site of)
 {
     uint64_t frames[MAX_FRAMES], *words;

@@ -44,6 +44,8 @@ void list_raise(_Atomic uint32_t *count, uint32_t least);
 uint64_t *list_take_words(struct list *list, uint32_t count, uint32_t *number);
 /* The words before this one are there. */
 void list_show_words(struct list *list, uint32_t end);
+/* Puts a text among them. Answers its number; 0: there is no room. */
+uint32_t list_put_text(struct list *list, const char *text);
 /* Puts the stack of a call site there, if it is not there yet. Answers its number; 0: it has none, or no room. */
 uint32_t list_put_stack(struct list *list, call_site of);
 

@@ -39,6 +39,12 @@ static void add_location(char *name, const struct location *at)
     }
 }
 
+void near_name_global(const struct global *global, char name[SIDE_NAME])
+{
+    if (memory_read_text((uintptr_t)global->name, name, SIDE_NAME))
+        add_location(name, global->location);
+}
+
 void near_global(uint64_t address, struct side_fault *fault)
 {
     struct global global;
@@ -47,8 +53,7 @@ void near_global(uint64_t address, struct side_fault *fault)
     fault->variable = VARIABLE_GLOBAL;
     fault->block = global.start;
     fault->block_size = global.size;
-    if (memory_read_text((uintptr_t)global.name, fault->name, sizeof fault->name))
-        add_location(fault->name, global.location);
+    near_name_global(&global, fault->name);
 }
 
 /* Takes ":LINE" away from the end of a name, and answers it; 0 if it is not there. */

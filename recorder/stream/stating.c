@@ -13,6 +13,7 @@ static enum kind kind_of(unsigned char code)
 {
     switch (code) {
     case SHADE_GLOBAL:
+    case SHADE_UNINITIALISED:
         return KIND_GLOBAL;
     case SHADE_USER:
     case SHADE_CONTAINER:

@@ -8,9 +8,13 @@
 #include <memory>
 #include <new>
 #include <regex>
+#include <sanitizer/common_interface_defs.h>
 #include <sstream>
 #include <string>
+#include <sys/resource.h>
 #include <vector>
+
+extern "C" size_t __sanitizer_get_allocated_size(const volatile void *start); // not in a header of GCC
 
 template <class T> static T *hide(T *pointer)
 {
@@ -83,22 +87,29 @@ static void clean()
     printf("%zu\n", malloc_usable_size(kept));
 }
 
-static void refused()
+static void limit()
 {
-    try {
-        kept = new char[large((size_t)1 << 46)];
-    } catch (std::bad_alloc &) {
-        puts("bad_alloc");
-    }
-    kept = new (std::nothrow) char[large((size_t)1 << 46)];
+    rlimit most = {64 << 20, 64 << 20};
+    setrlimit(RLIMIT_DATA, &most);
 }
+
+static char room[64];
 
 static const struct {
     const char *name;
     void (*run)();
 } cases[] = {
+    {"container_end",
+     [] { __sanitizer_annotate_contiguous_container(room, room + 64, room + 64, room + 65); }}, // container_end
+    {"container_start",
+     [] { __sanitizer_annotate_contiguous_container(room + 8, room + 64, room, room + 64); }}, // container_start
+    {"container_good", [] { __sanitizer_annotate_contiguous_container(room, room + 64, room + 64, room + 64); }},
+    {"allocated_size", [] { printf("%zu\n", __sanitizer_get_allocated_size(hide(room))); }}, // allocated_size
+    {"allocated_size_good", [] { printf("%zu\n", __sanitizer_get_allocated_size(nullptr)); }},
+    {"new_too_big", [] { try { kept = new char[large((size_t)1 << 46)]; } catch (std::bad_alloc &) {} }}, // new_too_big
+    {"nothrow_too_big", [] { kept = new (std::nothrow) char[large((size_t)1 << 46)]; }}, // nothrow_too_big
+    {"no_memory", [] { limit(); kept = malloc(large((size_t)1 << 30)); }}, // no_memory
     {"clean", clean},
-    {"refused", refused},
     {"malloc_delete", [] { delete hide((char *)malloc(10)); }},        // malloc_delete
     {"malloc_delete_array", [] { delete[] hide((char *)malloc(10)); }}, // malloc_delete_array
     {"calloc_delete", [] { delete hide((char *)calloc(1, 10)); }},      // calloc_delete

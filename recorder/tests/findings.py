@@ -27,7 +27,12 @@ CLASSES = {
     "aligned_alloc_size": "invalid-aligned-alloc-alignment",
     "posix_memalign": "invalid-posix-memalign-alignment", "memalign": "invalid-allocation-alignment",
     "too_big": "allocation-size-too-big", "usable_of_freed": "bad-malloc_usable_size",
-    "clean": None, "refused": None,
+    "container_end": "bad-__sanitizer_annotate_contiguous_container",
+    "container_start": "bad-__sanitizer_annotate_contiguous_container", "container_good": None,
+    "allocated_size": "bad-__sanitizer_get_allocated_size", "allocated_size_good": None,
+    "new_too_big": "allocation-size-too-big", "nothrow_too_big": "allocation-size-too-big",
+    "no_memory": "out-of-memory",
+    "clean": None,
 }
 # What is said of some.
 WORDS = {
@@ -40,7 +45,7 @@ WORDS = {
     "other_both": "operator delete of 20 bytes with alignment 32, and 10 bytes with alignment 64 were allocated",
 }
 # AddressSanitizer does not look at these, or ends where memory is refused. It knows alignments of up to 512.
-ALONE = ("wcscpy", "wmemcpy", "wcsncat_before", "wcscat_nothing", "stpcpy", "mempcpy", "refused", "other_large")
+ALONE = ("wcscpy", "wmemcpy", "wcsncat_before", "wcscat_nothing", "stpcpy", "mempcpy", "other_large")
 
 
 def line_of(name):
@@ -79,6 +84,16 @@ def check_switch(suite, folder, program):
     for name in ("array_free", "sized", "other_alignment"):
         run([program, name], folder, ASANCOL_TRACE=trace, ASANCOL_WHERE="1", ASANCOL_MISMATCHES="0")
         expect(found_in(trace), [], f"{name} with ASANCOL_MISMATCHES=0")
+        os.unlink(trace)
+        os.unlink(f"{trace}.where")
+
+
+def check_refused(suite, folder, program):
+    """With AddressSanitizer's allocator_may_return_null=1 these are no mistakes."""
+    trace = f"{folder}/t.trace"
+    for name in ("new_too_big", "nothrow_too_big", "too_big", "calloc_overflow", "posix_memalign", "no_memory"):
+        ran = run([program, name], folder, ASANCOL_TRACE=trace, ASANCOL_WHERE="1", ASANCOL_MAY_RETURN_NULL="1")
+        expect((ran.returncode, found_in(trace)), (0, []), name)
         os.unlink(trace)
         os.unlink(f"{trace}.where")
 
@@ -212,6 +227,7 @@ def tests(suite, compiler):
     for name, wanted in CLASSES.items():
         suite.test(f"{compiler} by the recorder: {name}", check_case, program, sanitized, name, wanted)
     suite.test(f"{compiler} by the recorder: the switch", check_switch, program)
+    suite.test(f"{compiler} by the recorder: what may be refused", check_refused, program)
     for some in FLAGS:
         suite.test(f"{compiler} by the recorder: replaced operators {' '.join(some)}", check_replaced, compiler, some)
     suite.test(f"{compiler} by the recorder: handed over", check_handed_over, compiler)

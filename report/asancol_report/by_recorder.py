@@ -3,16 +3,17 @@ each output says so. common/README.md lists their kinds."""
 
 from __future__ import annotations
 
-from typing import Callable, Dict, NamedTuple
+from typing import Callable, Dict, NamedTuple, Optional, Tuple
 
 from .class_names import (
-    ALIGNMENTS, CLASSES, INDIRECT_LEAK, LEAK, MISMATCH, NEGATIVE_SIZE, NOT_OWNED, SIZE_MISMATCH, TOO_BIG,
+    ALIGNMENTS, CLASSES, CONTAINER, DOUBLE_ENDED, INDIRECT_LEAK, LEAK, MISMATCH, NEGATIVE_SIZE, NO_MEMORY, ODR,
+    POINTER_PAIR, SIZE_MISMATCH, SIZES_ASKED, TOO_BIG,
 )
 from .leaks import leak_text, Leaks
 from .side import (
-    Fault, FINDING_ALIGNMENT, FINDING_FAMILY, FINDING_INDIRECT_LEAK, FINDING_LAST, FINDING_LEAK,
-    FINDING_NEGATIVE_SIZE, FINDING_NOT_OWNED, FINDING_OTHER_ALIGNMENT, FINDING_OVERFLOW, FINDING_OVERLAP, FINDING_SIZE,
-    FINDING_TOO_BIG,
+    Fault, FINDING_ALIGNMENT, FINDING_CONTAINER, FINDING_DOUBLE_ENDED, FINDING_FAMILY, FINDING_INDIRECT_LEAK,
+    FINDING_LAST, FINDING_LEAK, FINDING_NEGATIVE_SIZE, FINDING_NO_MEMORY, FINDING_NOT_OWNED, FINDING_ODR,
+    FINDING_OTHER_ALIGNMENT, FINDING_OVERFLOW, FINDING_OVERLAP, FINDING_POINTERS, FINDING_SIZE, FINDING_TOO_BIG,
 )
 from .words import plural
 
@@ -78,6 +79,37 @@ def other_alignment(fault: Fault) -> str:
     return f"{fault.call}{size} with {said}, and {plural(fault.block_size, 'byte')} with {made} were allocated"
 
 
+def container(fault: Fault) -> str:
+    end = (fault.start + fault.size) % SIZE_END
+    return f"0x{fault.other:x} is not in the container's memory [0x{fault.start:x}, 0x{end:x})"
+
+
+def not_owned(fault: Fault) -> str:
+    return f"bad-{fault.call}" if fault.call in SIZES_ASKED else f"bad-{SIZES_ASKED[0]}"
+
+
+def two_definitions(fault: Fault) -> str:
+    """Returns the definitions of a global: the one that came, and the one that was there."""
+    name, place = name_and_place(fault.name)
+    _, other = name_and_place(fault.variables)
+    return (f"global '{name}' of {plural(fault.size, 'byte')} at {place or 'an unknown place'}, and of "
+            f"{plural(fault.block_size, 'byte')} at {other or 'an unknown place'}")
+
+
+def name_and_place(text: str) -> Tuple[str, str]:
+    name, _, place = text.partition(" ")
+    return name, place
+
+
+def definition(fault: Fault) -> Optional[Tuple[str, str, int]]:
+    """Returns the name, file and line of what a finding is about, if it is about a definition and no call."""
+    if fault.kind != FINDING_ODR:
+        return None
+    name, place = name_and_place(fault.name)
+    file, _, line = place.rpartition(":")
+    return (name, file, int(line)) if file and line.isdecimal() else (name, place, 0)
+
+
 def signed(size: int) -> int:
     return size - SIZE_END if size >= NEGATIVE else size
 
@@ -96,7 +128,14 @@ FORMS: Dict[int, Form] = {
                             no_address),
     FINDING_TOO_BIG: Form(lambda _: TOO_BIG, "malloc", lambda it: f"request for {plural(it.size, 'byte')}",
                           no_address),
-    FINDING_NOT_OWNED: Form(lambda _: NOT_OWNED, CALL, lambda it: (
+    FINDING_NO_MEMORY: Form(lambda _: NO_MEMORY, "malloc", lambda it: (
+        f"request for {plural(it.size, 'byte')}, and there is no memory"), no_address),
+    FINDING_CONTAINER: Form(lambda _: CONTAINER, CALL, container, no_address, False),
+    FINDING_DOUBLE_ENDED: Form(lambda _: DOUBLE_ENDED, CALL, container, no_address, False),
+    FINDING_POINTERS: Form(lambda _: POINTER_PAIR, CALL, lambda it: f"0x{it.start:x} and 0x{it.other:x}",
+                           has_size=False),
+    FINDING_ODR: Form(lambda _: ODR, CALL, two_definitions, no_address, False),
+    FINDING_NOT_OWNED: Form(not_owned, CALL, lambda it: (
         f"{it.call} of a pointer to no block"), has_size=False),
     FINDING_OTHER_ALIGNMENT: Form(lambda _: SIZE_MISMATCH, "free", other_alignment, lambda it: it.block, False),
 }

@@ -33,7 +33,12 @@ LEAK, INDIRECT_LEAK = "leak", "indirect-leak"
 MISMATCH, SIZE_MISMATCH = "alloc-dealloc-mismatch", "new-delete-type-mismatch"
 # What a report begins with, if that is not its class.
 TITLES = {LEAK: "detected memory leaks", INDIRECT_LEAK: "detected memory leaks"}
-TOO_BIG, NOT_OWNED = "allocation-size-too-big", "bad-malloc_usable_size"
+TOO_BIG, NO_MEMORY = "allocation-size-too-big", "out-of-memory"
+# Functions that are asked how large a block is.
+SIZES_ASKED = ("malloc_usable_size", "__sanitizer_get_allocated_size")
+CONTAINER = "bad-__sanitizer_annotate_contiguous_container"
+DOUBLE_ENDED = "bad-__sanitizer_annotate_double_ended_contiguous_container"
+POINTER_PAIR, ODR, INIT_ORDER = "invalid-pointer-pair", "odr-violation", "initialization-order-fiasco"
 CLASSES = {
     **OF_ASANCOL,
     "stack-buffer-underflow": "Access before the first variable of a frame",
@@ -48,7 +53,13 @@ CLASSES = {
     MISMATCH: "Block freed by a function of another family than that which has allocated it",
     SIZE_MISMATCH: "Object deleted with another size or alignment than that which was allocated",
     TOO_BIG: "Request for more memory than a block can have",
-    NOT_OWNED: "Question for the size of a block where none begins",
+    NO_MEMORY: "Request for a block for which there is no memory",
+    CONTAINER: "Annotation of a container past its bounds",
+    DOUBLE_ENDED: "Annotation of a container with two ends past its bounds",
+    POINTER_PAIR: "Comparison or difference of pointers into two objects",
+    ODR: "Global that two modules define",
+    INIT_ORDER: "Access to a global of another file before that has initialised it",
+    **{f"bad-{call}": "Question for the size of a block where none begins" for call in SIZES_ASKED},
     **{f"{call}-param-overlap": f"Call of {call} on ranges that overlap" for call in OVERLAPPING},
     **{f"{call}-overflow": f"Call of {call} for more bytes than a size can say" for call in OVERFLOWING},
     **{name: "Alignment that there is not, or not with this size" for name in ALIGNMENTS.values()},
@@ -64,6 +75,7 @@ BY_SHADOW = {
     0xF8: ("stack-use-after-scope", STACK),
     0xCA: ("dynamic-stack-buffer-overflow", STACK),
     0xCB: ("dynamic-stack-buffer-overflow", STACK),
+    0xF6: (INIT_ORDER, "global-buffer-overflow"),
     0xF9: ("global-buffer-overflow", "global-buffer-overflow"),
     0xFA: ("heap-buffer-overflow", "heap-buffer-overflow"),
     0xAC: ("heap-buffer-overflow", "heap-buffer-overflow"),

@@ -17,7 +17,13 @@ ADVICE = (
     (r"overlap", "Use memmove, or look at why the two ranges are not apart."),
     (r"(calloc|array|pvalloc)-overflow|alignment|too-big", "Look at what is passed in this call: a negative number "
      "becomes a large size."),
-    (r"usable_size", "A pointer that malloc has not given, or that was freed, has no size."),
+    (r"out-of-memory", "Look at what is passed in this call, and at what else the process has allocated."),
+    (r"annotate", "A container has to say which of its own bytes are in use: look at what is passed in this call."),
+    (r"pointer-pair", "Only pointers into one object, or just past its end, have an order and a difference."),
+    (r"odr", "All modules use one of the definitions, and one of another size or with another value may be meant: give "
+     "them different names, or make them static or hidden."),
+    (r"init.*-order", "Which file is initialised first is not defined: use a function with a static variable in it."),
+    (r"usable_size|allocated_size", "A pointer that malloc has not given, or that was freed, has no size."),
     (r"stack-overflow", "Look for a recursion that does not end, and for large variables on the stack."),
     (r"container", "The container's memory is there, but it has no element at this place."),
     (r"poison|intra-object", "The program, or a library with a pool of memory, has said that nothing may be here."),

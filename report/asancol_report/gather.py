@@ -8,7 +8,7 @@ from __future__ import annotations
 
 from typing import Callable, cast, Dict, Hashable, List, NamedTuple, Optional, Tuple
 
-from .by_recorder import FORMS, lost_at
+from .by_recorder import definition, FORMS, lost_at
 from .class_names import class_of, INDIRECT_LEAK, LEAK
 from .crashes import STACK_OVERFLOW
 from .findings import (Block, DYNAMIC, Finding, Frame, GLOBAL, HEAP, Rows, STACK, Stack, Tally, Thread,
@@ -244,7 +244,7 @@ class Gatherer:
     def complete(self, sighting: Sighting) -> Finding:
         """Gives a finding its stacks and its fingerprint."""
         finding = sighting.finding
-        finding.stack = self.stack(sighting.place, NO_PLACE)
+        finding.stack = finding.stack or self.stack(sighting.place, NO_PLACE)
         if finding.block is not None and finding.block.kind == HEAP and not finding.is_forgotten:
             finding.allocated = self.stack(sighting.allocated, NO_ALLOCATION)
             if sighting.freed:
@@ -321,6 +321,10 @@ def finding_by_recorder(fault: Fault) -> Finding:
     finding.said = form.words(fault)
     finding.call = fault.call
     finding.block = Block(fault.block, fault.block_size) if address and fault.block else None
+    defined = definition(fault)
+    if defined is not None:
+        name, file, line = defined
+        finding.stack = (Frame(function=name, file=file, line=line),)
     return finding
 
 

@@ -59,8 +59,9 @@ VARIABLE_NONE, VARIABLE_STACK, VARIABLE_GLOBAL, VARIABLE_DYNAMIC, VARIABLE_FORGO
 # What the recorder has found by itself.
 (FINDING_NONE, FINDING_LEAK, FINDING_INDIRECT_LEAK, FINDING_FAMILY, FINDING_SIZE, FINDING_OVERLAP,
  FINDING_NEGATIVE_SIZE, FINDING_OVERFLOW, FINDING_ALIGNMENT, FINDING_TOO_BIG, FINDING_NOT_OWNED,
- FINDING_OTHER_ALIGNMENT) = range(12)
-FINDING_LAST = FINDING_OTHER_ALIGNMENT
+ FINDING_OTHER_ALIGNMENT, FINDING_CONTAINER, FINDING_DOUBLE_ENDED, FINDING_POINTERS, FINDING_NO_MEMORY,
+ FINDING_ODR) = range(17)
+FINDING_LAST = FINDING_ODR
 
 # How many entries of the index are read at once, and of the list of faults.
 INDEX_PART = 1 << 14
@@ -130,13 +131,13 @@ class Fault(NamedTuple):
     shadow_start: int  # the first byte of which `shadow` speaks
     frame: int  # where the frame of a variable begins
     function: int  # an address in its function
-    variables: str  # how the compiler describes that frame
+    variables: str  # how the compiler describes that frame; of a global that was defined twice, the other definition
     call: str  # the function of the C library that has made the access
     # Of a finding of the recorder:
     kind: int = FINDING_NONE
     count: int = 0  # type: ignore[assignment]  # how often it came up; of a leak how many blocks are lost
     after: int = 0  # how many events came before it
-    other: int = 0  # of an overlap where the other range begins; of an overflow what the size is to be taken times
+    other: int = 0  # what common/format.h says of each kind
 
 
 def path_of(text: bytes) -> str:

@@ -12,6 +12,7 @@ from asancol_report import side as layout
 from asancol_report.class_names import CLASSES
 
 LEAK, INDIRECT, FAMILY, SIZE, OVERLAP, NEGATIVE, PRODUCT, ALIGNMENT, TOO_BIG, NOT_OWNED, OTHER_ALIGNMENT = range(1, 12)
+CONTAINER, DOUBLE_ENDED, POINTERS, NO_MEMORY, ODR = range(12, 17)
 CLEAN = END.replace("reports 1", "reports 0")
 MINUS_FIVE = (1 << 64) - 5
 
@@ -40,6 +41,12 @@ def one_of_each(places: Dict[str, int]) -> List[bytes]:
         finding(TOO_BIG, here, given=(0, 1 << 60), count=2, after=10),
         finding(NOT_OWNED, here, 0x2000, 16, made, "malloc_usable_size", given=(0x2000, 0), freed=places["drop"],
                 after=11),
+        finding(NOT_OWNED, here, call="__sanitizer_get_allocated_size", given=(0x5000, 0), after=11),
+        finding(CONTAINER, here, given=(0x2000, 64), other=0x2041, after=11),
+        finding(DOUBLE_ENDED, here, given=(0x2000, 64), other=0x1fff, after=11),
+        finding(POINTERS, here, given=(0x2000, 0), other=0x3000, after=11),
+        finding(NO_MEMORY, here, given=(0, 1 << 39), after=11),
+        finding(ODR, here, 0x4000, 40, name="shared one.c:7", given=(0x4000, 80), after=11),
     ]
 
 
@@ -57,6 +64,14 @@ TITLES = (
     "(by the recorder)",
     "allocation-size-too-big: request for 1152921504606846976 bytes (by the recorder, 2 times, 1 process)",
     "bad-malloc_usable_size: malloc_usable_size of a pointer to no block (by the recorder)",
+    "bad-__sanitizer_get_allocated_size: __sanitizer_get_allocated_size of a pointer to no block (by the recorder)",
+    "bad-__sanitizer_annotate_contiguous_container: 0x2041 is not in the container's memory [0x2000, 0x2040) "
+    "(by the recorder)",
+    "bad-__sanitizer_annotate_double_ended_contiguous_container: 0x1fff is not in the container's memory "
+    "[0x2000, 0x2040) (by the recorder)",
+    "invalid-pointer-pair: 0x2000 and 0x3000 (by the recorder)",
+    "out-of-memory: request for 549755813888 bytes, and there is no memory (by the recorder)",
+    "odr-violation: global 'shared' of 80 bytes at one.c:7, and of 40 bytes at an unknown place (by the recorder)",
     "detected memory leaks (by the recorder)",
     "detected memory leaks (by the recorder)",
 )
@@ -72,11 +87,12 @@ def each_kind(folder: str) -> None:
     expect(ran.status, 1, ran.err)
     titles = re.findall(r"^==7==ERROR: asancol: (.*)$", ran.out, re.M)
     expect(titles, list(TITLES), "titles, in the order of what came before")
-    expect_in(ran.out, "asancol: 14 reports at 13 places (14 by the recorder); 1 process, 9 events; all complete\n",
+    expect_in(ran.out, "asancol: 20 reports at 19 places (20 by the recorder); 1 process, 9 events; all complete\n",
               "0x2000 is byte 0 of a block of 40 bytes\n  allocated at\n", "in make ",
               "0x2004 is byte 4 of a block of 16", "0x2000 is byte 0 of a freed block of 16 bytes",
               "\nDirect leak of 24 byte(s) in 3 object(s) allocated from:\n    #0 ",
-              "\nIndirect leak of 8 byte(s) in 1 object(s) allocated from:\n    #0 ")
+              "\nIndirect leak of 8 byte(s) in 1 object(s) allocated from:\n    #0 ",
+              " in shared one.c:7\n")
     expect_not_in(ran.out, "address 0x0", "0x0 is")
     with open(f"{folder}/a.json", encoding="utf-8") as file:
         found = [it for it in map(json.loads, file) if it["type"] == "finding"]

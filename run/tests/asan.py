@@ -31,13 +31,13 @@ def check_statuses(suite: Suite, folder: str) -> None:
 
 def check_named(suite: Suite, folder: str) -> None:
     """What has no effect and could change a result is said once, and the rest with --verbose."""
-    words = "halt_on_eror=1,log_path=/tmp/x symbolize=0:strict_string_checks=1:detect_odr_violation=0:x:exitcode=3"
+    words = "halt_on_eror=1,log_path=/tmp/x symbolize=0:strict_string_checks=1:detect_write_exec=0:x:exitcode=3"
     ran = suite.run("--", suite.program, "sound", ASAN_OPTIONS=words, ASANCOL_REPORT=REPORT)
     expect_ran(ran, 0, NOTE, absent=["symbolize"])
     ran = suite.run("-v", "--exitcode=4", "--", "sh", "-c", f"{suite.program} past; {suite.program} past",
                     ASAN_OPTIONS=words, ASANCOL_REPORT=REPORT)
     expect_ran(ran, 4, NOTE, "asancol: ASAN_OPTIONS: the command line or an ASANCOL variable wins: exitcode=3\n",
-               "asancol: ASAN_OPTIONS: no report depends on symbolize=0, detect_odr_violation=0\n")
+               "asancol: ASAN_OPTIONS: no report depends on symbolize=0, detect_write_exec=0\n")
     expect(ran.err.count("strict_string_checks"), 1, "once")
     expect_ran(suite.run("-q", "--", suite.program, "sound", ASAN_OPTIONS=words), 0, absent=["asancol"])
 

@@ -21,14 +21,7 @@ CRASHES = {
 UNCLAIMED = {
     "CHECK": "the runtime's own checks",
     "does not build": "does not build here",
-    "bad-__sanitizer_annotate_contiguous_container": "bad annotations of containers",
-    "bad-__sanitizer_annotate_double_ended_contiguous_container": "bad annotations of containers",
-    "bad-__sanitizer_get_allocated_size": "the size of what was not allocated",
-    "initialization-order-fiasco": "order of initialisation",
-    "invalid-pointer-pair": "pairs of pointers",
     "memmove-param-overlap": "ranges that may overlap",
-    "odr-violation": "second definitions",
-    "out-of-memory": "limits of the allocator",
     "rss-limit-exceeded": "limits of the allocator",
 }
 

@@ -1,0 +1,10 @@
+/* Globals that have no value yet, while a file initialises its own: an access to one is bad then, since it depends on the
+   order of files. As AddressSanitizer's check_initialization_order. */
+#ifndef ASANCOL_INIT_ORDER_H
+#define ASANCOL_INIT_ORDER_H
+
+/* Around the initialisers of a file, by the text that its globals have for it. */
+void init_order_before(const char *module);
+void init_order_after(void);
+
+#endif

@@ -1,0 +1,13 @@
+/* Globals that two modules have defined, against the rule of one definition. As AddressSanitizer's detect_odr_violation. */
+#ifndef ASANCOL_ODR_H
+#define ASANCOL_ODR_H
+
+#include <stdbool.h>
+#include <stdint.h>
+
+struct global;
+
+/* A table of globals comes, whose redzones are not painted yet, or goes (globals_note). */
+void odr_globals_note(const struct global *table, uint64_t count, bool is_there);
+
+#endif

@@ -1,0 +1,144 @@
+"""What settings choose to look for: globals with two definitions, the order of initialisation, and pairs of pointers. Each
+is found where AddressSanitizer finds it, and not where it does not."""
+
+import re
+from typing import List, Sequence, Tuple
+
+from asancol_report.by_recorder import FORMS
+from support import Compiler, Suite, expect, reports, run, side_of, write
+from testing.side import Side
+
+ON = {"ASANCOL_TRACE": "t.trace", "ASANCOL_WHERE": "1"}
+SAID = re.compile(r"SUMMARY: AddressSanitizer: ([\w-]+)")
+
+
+def class_said(folder: str, program: str, options: str) -> str:
+    """The class that AddressSanitizer says; or nothing."""
+    ran = run([program], folder, ASAN_OPTIONS=f"detect_leaks=0:{options}")
+    found = SAID.search(ran.stderr.decode())
+    return found[1] if found else ""
+
+
+def found_in(folder: str, program: str, **settings: str) -> List[str]:
+    """What the recorder has found, in words."""
+    ran = run([program], folder, **ON, **settings)
+    expect(ran.stderr, b"", "what the program says")
+    side: Side = side_of(f"{folder}/t.trace")
+    run(["rm", "t.trace", "t.trace.where"], folder)
+    return [f"{FORMS[it.kind].class_of(it)}: {FORMS[it.kind].words(it)}" for it in side.findings()]
+
+
+TWICE = "odr-violation: global 'shared' of {0} bytes at {1}, and of {2} bytes at {3}"
+DEFINED = {
+    "one_c": "int shared[10];\nstatic int alone[3];\nint hidden[7];\nint in_library(void);\n"
+             "int main(void) { return in_library() + shared[0] + alone[1] + hidden[2]; }\n",
+    "two_c": "static int alone[3];\nint __attribute__((visibility(\"hidden\"))) hidden[9];\n"
+             "int shared[SIZE];\nint in_library(void) { return shared[1] + alone[2] + hidden[3]; }\n",
+}
+
+
+def check_definitions(suite: Suite, folder: str, compiler: Compiler, size: int, settings: Tuple[str, int]) -> None:
+    """A global that the program and its library define; not static ones, and not a hidden one."""
+    write(folder, **DEFINED)
+    setting, level = settings
+    for name, native, flags in (("recorded", False, ()), ("sanitized", True, ("-fsanitize=address",))):
+        compiler.c(folder, ["two.c"], f"{folder}/lib{name}.so", "-fPIC", "-shared", f"-DSIZE={size}", *flags,
+                   native=native)
+        compiler.c(folder, ["one.c", f"./lib{name}.so"], f"{folder}/{name}", *flags, native=native)
+    said = class_said(folder, "./sanitized", f"detect_odr_violation={level}")
+    found = found_in(folder, "./recorded", **({setting: str(level)} if setting else {}))
+    expect(bool(found), bool(said), f"{found}, {said}")
+    both = sorted([(40, "one.c:1"), (size * 4, "two.c:3")], key=lambda it: it[1])
+    orders = [TWICE.format(*one, *other) for one, other in (both, reversed(both))]
+    expect([it in orders for it in found], [True] * bool(said), found)
+
+
+FIRST = """
+#include <cstdio>
+extern int other;
+int mine = other + 1;
+int good = 3;
+int main() { std::printf("%d\\n", mine + other); }
+"""
+SECOND = """
+#include <cstdlib>
+extern int good;
+int make() { return std::atoi("5") + good; }
+int other = make();
+"""
+
+
+def check_order(suite: Suite, folder: str, compiler: Compiler, names: Sequence[str], level: int) -> None:
+    write(folder, first_cpp=FIRST, second_cpp=SECOND)
+    compiler.cpp(folder, names, f"{folder}/recorded", "-O0")
+    compiler.cpp(folder, names, f"{folder}/sanitized", "-O0", "-fsanitize=address", native=True)
+    options = f"check_initialization_order={int(level > 0)}:strict_init_order={int(level > 1)}"
+    said = class_said(folder, "./sanitized", options)
+    found = found_in(folder, "./recorded", ASANCOL_INIT_ORDER=str(level))
+    expect(found, [], "findings without an event")
+    run(["./recorded"], folder, **ON, ASANCOL_INIT_ORDER=str(level))
+    side = side_of(f"{folder}/t.trace")
+    status, lines = reports(suite.asancol, f"{folder}/t.trace")[:2]
+    expect(status, int(bool(said)), "the status of the checker")
+    # The class by the shadow is that of reports; the checker has the coarse one.
+    expect((len(lines), [it.split()[-1] for it in lines]), (bool(said), ["global-buffer-overflow"] * bool(said)), lines)
+    shades = {it.shadow[(it.start - it.shadow_start) // 8] for it in map(side.fault, range(1, len(lines) + 1)) if it}
+    expect(shades, {0xF6} if said else set(), "what the shadow had")
+
+
+PAIRS = """
+#include <stdio.h>
+#include <stdlib.h>
+static char one[5000], other[5000];
+static int compare(char *volatile left, char *volatile right) { return left < right; } // compare
+static long subtract(char *volatile left, char *volatile right) { return left - right; } // subtract
+int main(int count, char **argv)
+{
+    char on_stack[100], *block = malloc(5000), *second = malloc(5000);
+    char *const lefts[] = {block, block, block, one, one, one, on_stack, on_stack, block, NULL, block, block};
+    char *const rights[] = {block + 4999, block + 5000, second, one + 4999, one + 5000, other, on_stack + 99,
+                            (char *)&count, on_stack, block, NULL, block};
+    int at = atoi(argv[1]);
+    compare(lefts[at], rights[at]);
+    subtract(rights[at], lefts[at]);
+    return 0;
+}
+"""
+PAIR_COUNT = 12
+
+
+def check_pairs(suite: Suite, folder: str, compiler: Compiler, level: int) -> None:
+    """Blocks, globals, variables on the stack, and null: with the class and both lines."""
+    write(folder, pairs_c=PAIRS)
+    flags = ("-fsanitize=pointer-compare,pointer-subtract",)
+    if compiler.name == "clang":
+        flags = ("-mllvm", "-asan-detect-invalid-pointer-pair")
+    compiler.c(folder, ["pairs.c"], f"{folder}/recorded", "-O0", *flags)
+    compiler.c(folder, ["pairs.c"], f"{folder}/sanitized", "-O0", "-fsanitize=address", *flags, native=True)
+    seen = 0
+    for at in range(PAIR_COUNT):
+        ran = run(["./sanitized", str(at)], folder,
+                  ASAN_OPTIONS=f"detect_leaks=0:detect_invalid_pointer_pairs={level}")
+        said = SAID.search(ran.stderr.decode())
+        run(["./recorded", str(at)], folder, **ON, ASANCOL_POINTER_PAIRS=str(level))
+        side = side_of(f"{folder}/t.trace")
+        run(["rm", "t.trace", "t.trace.where"], folder)
+        found = [(FORMS[it.kind].class_of(it), side.lines(it.place)[0][1].split(":")[1]) for it in side.findings()]
+        wanted = [("invalid-pointer-pair", "5"), ("invalid-pointer-pair", "6")] if said else []
+        expect(found, wanted, f"pair {at}: {ran.stderr.decode()}")
+        seen += bool(said)
+    expect((seen > 3) == (level > 0), True, f"{seen} that AddressSanitizer finds")
+
+
+def tests(suite: Suite, compiler: Compiler) -> None:
+    if not compiler.has_sanitizer:
+        return
+    for size, settings in ((20, ("", 2)), (10, ("", 2)), (10, ("ASANCOL_ODR", 1)), (20, ("ASANCOL_ODR", 1)),
+                           (20, ("ASANCOL_ODR", 0))):
+        suite.test(f"{compiler} two definitions: {size} {'='.join(map(str, settings))}", check_definitions, compiler,
+                   size, settings)
+    for level in (0, 1, 2):
+        suite.test(f"{compiler} pairs of pointers: {level}", check_pairs, compiler, level)
+        if compiler.cxx:
+            for names in (("first.cpp", "second.cpp"), ("second.cpp", "first.cpp")):
+                suite.test(f"{compiler} order of initialisation: {level} {names[0]}", check_order, compiler, names, level)
