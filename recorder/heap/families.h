@@ -22,8 +22,8 @@ struct release {
 bool families_differ(const struct block *block, const struct release *release);
 void families_look_at(const struct block *block, const struct release *release);
 
-/* Notes that a block is refused, since it is larger than any can be, or since there is no memory. Nothing of an operator
-   that nobody has announced: what that does is not known. Without the lock. */
+/* Notes that a block is refused, since it is larger than any can be, or since there is no memory. Nothing of an
+   operator that nobody has announced: what that does is not known. Without the lock. */
 void families_note_refused(size_t size, uintptr_t caller, enum family family, bool is_too_big);
 /* Whether such requests are noted (heap_check_requests). */
 bool requests_are_noted(void);

@@ -71,8 +71,8 @@ INTERFACE void __sanitizer_annotate_contiguous_container(const void *start, cons
                                                          const void *new_middle)
 {
     uintptr_t before = (uintptr_t)old_middle, middle = (uintptr_t)new_middle;
-    if (lies_outside(FINDING_CONTAINER, (uintptr_t)start, (uintptr_t)end, (uintptr_t[]){before, middle, before, middle},
-                     CALLER()))
+    const uintptr_t places[] = {before, middle, before, middle};
+    if (lies_outside(FINDING_CONTAINER, (uintptr_t)start, (uintptr_t)end, places, CALLER()))
         return;
     uintptr_t low = greatest(least(before, middle) / GRANULE * GRANULE, (uintptr_t)start);
     uintptr_t high = least((greatest(before, middle) + GRANULE - 1) / GRANULE * GRANULE, (uintptr_t)end);
@@ -87,9 +87,8 @@ INTERFACE void __sanitizer_annotate_double_ended_contiguous_container(const void
                                                                       const void *old_first, const void *old_last,
                                                                       const void *new_first, const void *new_last)
 {
-    if (lies_outside(FINDING_DOUBLE_ENDED, (uintptr_t)start, (uintptr_t)end,
-                     (uintptr_t[]){(uintptr_t)old_first, (uintptr_t)old_last, (uintptr_t)new_first, (uintptr_t)new_last},
-                     CALLER()))
+    const uintptr_t places[] = {(uintptr_t)old_first, (uintptr_t)old_last, (uintptr_t)new_first, (uintptr_t)new_last};
+    if (lies_outside(FINDING_DOUBLE_ENDED, (uintptr_t)start, (uintptr_t)end, places, CALLER()))
         return;
     bool was_empty = old_first == old_last, is_empty = new_first == new_last;
     uintptr_t first = (uintptr_t)new_first / GRANULE * GRANULE, last = (uintptr_t)new_last;

@@ -1,6 +1,8 @@
 /* Clang has the address by which all modules know a global, so that two definitions have one start; or, by an option, a
-   byte that they share, the indicator. GCC has that of the module itself, and no indicator for kernel-address: there two
-   definitions are found by the names that their modules show to the loader. */
+   byte that they share, the indicator. GCC has that of the module itself, and no indicator for kernel-address: there
+   two definitions are found by the names that their modules show to the loader.
+
+   Tables come one after another, with the loader's lock or before there are threads. */
 #define _GNU_SOURCE
 #include "interface/odr.h"
 

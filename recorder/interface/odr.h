@@ -1,4 +1,5 @@
-/* Globals that two modules have defined, against the rule of one definition. As AddressSanitizer's detect_odr_violation. */
+/* Globals that two modules have defined, against the rule of one definition. As AddressSanitizer's
+   detect_odr_violation. */
 #ifndef ASANCOL_ODR_H
 #define ASANCOL_ODR_H
 

@@ -1,5 +1,5 @@
-/* A report is told once for each place, as AddressSanitizer does if it goes on. One thread tells at a time: `telling` is
-   its lock, which guards `now` and the text. No thread waits for it, since a callback may do anything. */
+/* A report is told once for each place, as AddressSanitizer does if it goes on. One thread tells at a time: `telling`
+   is its lock, which guards `report` and the text. No thread waits for it, since a callback may do anything. */
 #define _GNU_SOURCE
 #include "interface/reports.h"
 

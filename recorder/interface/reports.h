@@ -1,5 +1,5 @@
-/* Reports, as the process is told of them while it runs: by the program's __asan_on_error and by its callback, which may
-   ask for the report meanwhile. The checker's own reports come later, and from elsewhere. */
+/* Reports, as the process is told of them while it runs: by the program's __asan_on_error and by its callback, which
+   may ask for the report meanwhile. The checker's own reports come later, and from elsewhere. */
 #ifndef ASANCOL_REPORTS_H
 #define ASANCOL_REPORTS_H
 

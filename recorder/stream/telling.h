@@ -1,4 +1,5 @@
-/* A program may ask to be told of each report while it runs (interface/reports.h). What is found bad comes from here. */
+/* A program may ask to be told of each report while it runs (interface/reports.h). What is found bad comes from
+   here. */
 #ifndef ASANCOL_TELLING_H
 #define ASANCOL_TELLING_H
 

@@ -546,9 +546,11 @@ def check_told(suite: Suite, folder: str, compiler: Compiler, argv: Sequence[str
     expect((ran.returncode, ran.stdout), (0, said), "what it prints")
     expect(b"callback: 1, " in said, True, said)
     lines = ran.stderr.decode().splitlines()
-    expect([it[:9] for it in lines if it], [] if argv else [f"    #{it} 0x" for it in range(len(lines) - 1)], "a stack")
+    wanted = [] if argv else [f"    #{it} 0x" for it in range(len(lines) - 1)]
+    expect([it[:9] for it in lines if it], wanted, "a stack")
     if not argv:
-        expect([" in __sanitizer_print_stack_trace (" in lines[0], f" ({folder}/told+0x" in lines[1]], [True] * 2, lines)
+        expect((" in __sanitizer_print_stack_trace (" in lines[0], f" ({folder}/told+0x" in lines[1]), (True, True),
+               lines)
 
 
 GROWING = """

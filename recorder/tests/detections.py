@@ -1,5 +1,5 @@
-"""What settings choose to look for: globals with two definitions, the order of initialisation, and pairs of pointers. Each
-is found where AddressSanitizer finds it, and not where it does not."""
+"""What settings choose to look for: globals with two definitions, the order of initialisation, and pairs of pointers.
+Each is found where AddressSanitizer finds it, and not where it does not."""
 
 import re
 from typing import List, Sequence, Tuple
@@ -141,4 +141,5 @@ def tests(suite: Suite, compiler: Compiler) -> None:
         suite.test(f"{compiler} pairs of pointers: {level}", check_pairs, compiler, level)
         if compiler.cxx:
             for names in (("first.cpp", "second.cpp"), ("second.cpp", "first.cpp")):
-                suite.test(f"{compiler} order of initialisation: {level} {names[0]}", check_order, compiler, names, level)
+                suite.test(f"{compiler} order of initialisation: {level} {names[0]}", check_order, compiler, names,
+                           level)

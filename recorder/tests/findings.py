@@ -45,7 +45,7 @@ WORDS = {
     "other_both": "operator delete of 20 bytes with alignment 32, and 10 bytes with alignment 64 were allocated",
 }
 # AddressSanitizer does not look at these, or ends where memory is refused. It knows alignments of up to 512.
-ALONE = ("wcscpy", "wmemcpy", "wcsncat_before", "wcscat_nothing", "stpcpy", "mempcpy", "other_large")
+ALONE = ("no_memory", "wcscpy", "wmemcpy", "wcsncat_before", "wcscat_nothing", "stpcpy", "mempcpy", "other_large")
 
 
 def line_of(name):
