@@ -309,7 +309,8 @@ static __attribute__((noinline)) void give_back_slowly(void *pointer, struct ori
     /* Nothing is recorded yet, and in the lock it could not begin. */
     if (UNLIKELY(is_bad) && stream_state() == STATE_UNSTARTED)
         record_bad_free(address, from.caller, call);
-    above.tell_waiting();
+    if (is_telling())
+        above.tell_waiting();
     /* Out of the lock: what is called before the end may allocate. */
     if (UNLIKELY(is_bad) && atomic_load(&halt_is_on)) {
         struct access access = access_of(CODE_FREE, address, 0, from.caller, call);
