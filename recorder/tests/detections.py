@@ -76,7 +76,7 @@ def check_order(suite: Suite, folder: str, compiler: Compiler, names: Sequence[s
     said = class_said(folder, "./sanitized", options)
     found = found_in(folder, "./recorded", ASANCOL_INIT_ORDER=str(level))
     expect(found, [], "findings without an event")
-    run(["./recorded"], folder, **ON, ASANCOL_INIT_ORDER=str(level))
+    run(["./recorded"], folder, **ON, ASAN_OPTIONS=options)
     side = side_of(f"{folder}/t.trace")
     status, lines = reports(suite.asancol, f"{folder}/t.trace")[:2]
     expect(status, int(bool(said)), "the status of the checker")
