@@ -287,8 +287,8 @@ struct side_fault {
         struct side_found found; /* of a finding */
     };
     char call[SIDE_CALL];      /* the function of the C library that has made the access; empty: the program itself */
-    char name[SIDE_NAME];      /* of the variable: "name", or "name FILE:LINE" of a global; of a finding, what has
-                                  allocated the block */
+    char name[SIDE_NAME];      /* of the variable: "name", or "name FILE:LINE" of a global; of a block, or of a finding,
+                                  what has allocated it, if that is known */
 };
 
 _Static_assert(sizeof(struct side) == SIDE_BUILDS, "the head fits");

@@ -124,7 +124,7 @@ def bash_of_value(kind: str, words: Sequence[str]) -> List[str]:
     """Returns what completes a value of a kind."""
     if kind == "words":
         return [reply(f'compgen -W {quoted(" ".join(words))} -- "$word"')]
-    letter = {"folder": "d", "input": "f", "output": "f", "file": "f", "command": "c", "group": "g"}.get(kind)
+    letter = {"folder": "d", "input": "f", "output": "f", "prefix": "f", "file": "f", "command": "c", "group": "g"}.get(kind)
     names = ["compopt -o filenames 2> /dev/null"] if letter in ("d", "f") else []
     return [reply(f'compgen -{letter} -- "$word"'), *names] if letter else []
 
@@ -208,7 +208,7 @@ def zsh_of_value(option: Option, program: str) -> str:
     if option.takes.kind == "words":
         return f":{option.value.lower()}:({' '.join(option.takes.words)})"
     files = f':file:_files -g "{option.takes.pattern}(-.)"' if option.takes.pattern else ":file:_files"
-    values = {"flag": "", "folder": ":folder:_files -/", "input": files, "output": files,
+    values = {"flag": "", "folder": ":folder:_files -/", "input": files, "output": files, "prefix": files,
               "command": ":command:_command_names -e", "group": ":group:_groups", "digits": f":octal digits{default}"}
     return values.get(option.takes.kind, f":{option.takes.kind}{default}")
 

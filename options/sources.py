@@ -9,7 +9,7 @@ from typing import Dict, List, Sequence, Union
 from table import Option, Program, Wrong
 
 COLUMNS = 80
-LINES = 42
+LINES = 44
 
 
 def help_of(program: Program) -> List[str]:

@@ -21,6 +21,8 @@
     "  --keep DIR               keeps the traces of processes with reports\n" \
     "Text:\n" \
     "  --log-file FILE          where all lines go, not to standard error\n" \
+    "  --format FORM            whose text: asancol or asan (asancol)\n" \
+    "  --log-path PREFIX        write the text of asan to PREFIX.PID, too\n" \
     "  --live                   reports of a process when it ends, not all at the end\n" \
     "  --crashes                crashes that a parent waited for, too\n" \
     "  --source-root DIR        show files under DIR by their paths from there\n" \
@@ -68,6 +70,8 @@
     {"html", 0, PASS_OUTPUT, 0, 0, 0, NULL}, \
     {"keep", 0, SET_FOLDER, AT(keep), 0, 0, NULL}, \
     {"log-file", 0, SET_OUTPUT, AT(log), 0, 0, NULL}, \
+    {"format", 0, PASS_WORDS, 0, 0, 0, (const char *const[]){"asancol", "asan", NULL}}, \
+    {"log-path", 0, PASS_PREFIX, 0, 0, 0, NULL}, \
     {"live", 0, PASS_FLAG, AT(live), 0, 0, NULL}, \
     {"crashes", 0, PASS_FLAG, AT(crashes), 0, 0, NULL}, \
     {"source-root", 0, PASS_FOLDER, 0, 0, 0, NULL}, \

@@ -41,6 +41,7 @@ enum action {
     PASS_INPUT,  /* a file that the report reads */
     PASS_OUTPUT, /* a file that the report writes */
     PASS_FOLDER, /* a folder that the report is given */
+    PASS_PREFIX, /* the beginning of the names of files that the report writes */
     SHOW_HELP,
     SHOW_VERSION
 };
@@ -158,21 +159,36 @@ static double seconds_of(const struct option *option, const char *text)
     exit(OWN_FAILURE);
 }
 
-/* Whether a file can be made, or is there and can be written. */
-static void demand_output(const char *dashed, const char *path)
+/* Whether a file can be made in the folder of a name. */
+static bool has_good_folder(const char *path)
 {
     char folder[PATH_MAX];
     const char *slash = strrchr(path, '/');
+    if (slash == NULL)
+        return false;
+    snprintf(folder, sizeof folder, "%.*s", slash == path ? 1 : (int)(slash - path), path);
+    return access(folder, W_OK | X_OK) == 0;
+}
+
+static void demand_beginning(const char *dashed, const char *path)
+{
+    if (has_good_folder(path))
+        return;
+    say("asancol-run: %s: %s: %s", dashed, path, strerror(errno));
+    exit(OWN_FAILURE);
+}
+
+/* Whether a file can be made, or is there and can be written. */
+static void demand_output(const char *dashed, const char *path)
+{
     struct stat seen;
     if (stat(path, &seen) == 0) {
         if (S_ISDIR(seen.st_mode))
             errno = EISDIR;
         else if (access(path, W_OK) == 0)
             return;
-    } else if (errno == ENOENT && slash != NULL) {
-        snprintf(folder, sizeof folder, "%.*s", slash == path ? 1 : (int)(slash - path), path);
-        if (access(folder, W_OK | X_OK) == 0)
-            return;
+    } else if (errno == ENOENT && has_good_folder(path)) {
+        return;
     }
     say("asancol-run: %s: %s: %s", dashed, path, strerror(errno));
     exit(OWN_FAILURE);
@@ -267,6 +283,8 @@ static void pass_name(struct options *options, enum action action, const char *d
     if (action == PASS_OUTPUT) {
         demand_output(dashed, name);
         demand_alone(dashed, name);
+    } else if (action == PASS_PREFIX) {
+        demand_beginning(dashed, name);
     } else {
         demand(dashed, name, action == PASS_FOLDER);
     }

@@ -256,6 +256,7 @@ struct nearest {
     uintptr_t start;
     uint64_t size;
     struct call_sites call_sites;
+    enum family family;
     bool is_forgotten; /* its notes went back: it had so many bytes at most, or nothing is known if it has no start */
 };
 

@@ -146,19 +146,17 @@ bool families_differ(const struct block *block, const struct release *release)
 
 void families_look_at(const struct block *block, const struct release *release)
 {
-    static const char *const made[] = {"malloc", "operator new", "operator new []"};
     static const char *const freed[] = {NULL, "operator delete", "operator delete []"};
     if (!families_differ(block, release))
         return;
     call_site allocated = allocated_at(block);
-    enum family family = (enum family)block->family;
     enum finding_kind kind = kind_of(block, release);
     bool is_alignment = kind == FINDING_OTHER_ALIGNMENT;
     finding_note(&(struct finding){
         .kind = kind,
         .call_site = call_site_from(release->frame, release->caller),
         .call = release->family == FAMILY_MALLOC ? release->call : freed[release->family],
-        .name = made[family],
+        .name = family_name((enum family)block->family),
         .block = release->address,
         .block_size = size_of(block),
         .allocated = allocated,

@@ -6,4 +6,11 @@
    the program, or a library, has one of its own in the place of any of them. */
 enum family { FAMILY_MALLOC, FAMILY_NEW, FAMILY_NEW_ARRAY, FAMILY_ANY };
 
+/* The function that has allocated a block of it, as AddressSanitizer names it; null: it may be any. */
+static inline const char *family_name(enum family family)
+{
+    static const char *const names[] = {"malloc", "operator new", "operator new []"};
+    return family < FAMILY_ANY ? names[family] : 0;
+}
+
 #endif

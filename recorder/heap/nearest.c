@@ -149,7 +149,11 @@ static bool look_at(const struct slot *slot, uintptr_t address, uint64_t *least,
         return false;
     if (far < *least || (far == *least && start < found->start)) {
         *least = far;
-        *found = (struct nearest){start, size, call_sites_now(slot->block), is_gone};
+        *found = (struct nearest){.start = start,
+                                  .size = size,
+                                  .call_sites = call_sites_now(slot->block),
+                                  .family = (enum family)block.family,
+                                  .is_forgotten = is_gone};
     }
     return true;
 }

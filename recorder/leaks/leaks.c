@@ -89,7 +89,11 @@ static void note(const struct lost *lost)
 {
     for (size_t i = 0; i < lost->count; i++) {
         const struct lost_group *group = &lost->groups[i];
+        struct block block = {.family = FAMILY_ANY};
+        uintptr_t start;
+        arena_find_around(group->block, &block, &start);
         finding_note(&(struct finding){.kind = group->is_indirect ? FINDING_INDIRECT_LEAK : FINDING_LEAK,
+                                       .name = family_name((enum family)block.family),
                                        .call_site = group->call_site, .block = group->block, .block_size = group->size,
                                        .size = group->bytes, .count = group->count});
     }

@@ -159,6 +159,8 @@ void near_block(struct list *list, uint64_t address, struct side_fault *fault)
     if (!arena_find_nearest(address, &block))
         return;
     fault->variable = block.is_forgotten ? VARIABLE_FORGOTTEN : VARIABLE_NONE;
+    if (!block.is_forgotten && family_name(block.family) != NULL && fault->name[0] == 0)
+        add(fault->name, family_name(block.family));
     fault->block = block.start;
     fault->block_size = block.size;
     fault->allocated = call_site_address(block.call_sites.allocated);

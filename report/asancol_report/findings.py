@@ -154,7 +154,7 @@ class Finding:
     __slots__ = ("class_name", "raw_class", "access", "size", "call", "address", "bad", "shadow", "rows", "stack",
                  "block",
                  "allocated", "freed", "threads", "fingerprint", "runs", "suppression", "is_known", "follows", "also",
-                 "ordinal", "by_recorder", "said", "is_forgotten")
+                 "ordinal", "by_recorder", "said", "is_forgotten", "allocator")
 
     def __init__(self, class_name: str, access: str, size: Optional[int], address: int, bad: Optional[int]) -> None:
         self.class_name = class_name
@@ -182,6 +182,7 @@ class Finding:
         self.by_recorder = False  # no checker has judged it: it is the recorder's word
         self.said = ""  # what that is, in words
         self.is_forgotten = False  # the recorder keeps no notes on the block any more, which was freed long ago
+        self.allocator = ""  # the function that has allocated the block
 
     @property
     def counts(self) -> bool:

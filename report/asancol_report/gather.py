@@ -112,6 +112,8 @@ class Gatherer:
             if self.modules.is_full():
                 self.symbols.look_up()
         found = self.take_findings(process, pid, side, segment) if side else 0
+        if side is not None and self.results.has_addresses:
+            self.results.bases[self.run, process] = {it.path: it.base for it in side.maps}
         if side is not None and side.is_good and not side.maps and (lines.groups or found):
             self.results.notes[NO_MODULES] = None
         if side is not None and side.ending == ENDING_SIGNAL:
@@ -304,6 +306,7 @@ def finding_of(report: Report, fault: Optional[Fault]) -> Finding:
         finding.call = fault.call
         finding.is_forgotten = fault.variable == VARIABLE_FORGOTTEN
         finding.rows = Rows(fault.shadow_start, fault.shadow)
+        finding.allocator = fault.name if fault.variable == VARIABLE_NONE else ""
         if fault.size and report.access in ("load", "store"):
             finding.size = fault.size
             if fault.start <= report.address < fault.start + fault.size:
@@ -319,7 +322,7 @@ def finding_by_recorder(fault: Fault) -> Finding:
     finding.by_recorder = True
     finding.raw_class = LEAK if finding.class_name == INDIRECT_LEAK else finding.class_name
     finding.said = form.words(fault)
-    finding.call = fault.call
+    finding.call, finding.allocator = fault.call, fault.name
     finding.block = Block(fault.block, fault.block_size) if address and fault.block else None
     defined = definition(fault)
     if defined is not None:

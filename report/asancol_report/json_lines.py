@@ -172,6 +172,8 @@ def finding_entry(finding: Finding, lost: Leaks) -> Entry:
         entry["raw_class"] = finding.raw_class
     if finding.call:
         entry["call"] = finding.call
+    if finding.allocator:
+        entry["allocator"] = finding.allocator
     if finding.by_recorder:
         entry["by"], entry["said"] = RECORDER, finding.said
     if lost.blocks:
@@ -385,7 +387,7 @@ def finding_of(entry: Entry) -> Finding:
     finding = Finding(text_of(get("class")), text_of(get("access")), None if size is None else number_of(size),
                       address_of(get("address")), None if bad is None else address_of(bad))
     finding.raw_class = text_of(get("raw_class")) or finding.class_name
-    finding.call = text_of(get("call"))
+    finding.call, finding.allocator = text_of(get("call")), text_of(get("allocator"))
     finding.by_recorder = get("by") == RECORDER
     finding.said = text_of(get("said"))
     finding.is_forgotten = get("forgotten") is True

@@ -28,6 +28,9 @@ if TYPE_CHECKING:
     from .baseline import Baseline
     from .hub import Files
 
+# AddressSanitizer's text.
+ASAN = "asan"
+
 Writer = Callable[[Results, TextIO, Options, Sources], None]
 
 
@@ -50,6 +53,7 @@ class Report:
         self.results.lists_unchecked = options.value("--unchecked") != "no"
         self.results.counts_awaited = options.switches["--crashes"]
         self.results.demands_checked = options.value("--unchecked") == "error"
+        self.results.has_addresses = options.value("--format") == ASAN or bool(options.value("--log-path"))
         self.modules = Modules()
         self.symbols = Symbols(self.modules)
         self.sources = Sources(self.root)
@@ -220,10 +224,7 @@ class Report:
         if self.baseline:
             self.baseline.apply(new)
         self.results.fold()
-        at_once = set(new)
-        for finding in sorted(new, key=lambda it: it.order):
-            if finding.counts and finding.follows not in at_once:
-                self.text.place(finding, times=False)
+        self.text.new_places(new, self.results)
         self.flush()
 
     def judge(self) -> None:
@@ -301,6 +302,9 @@ def text_of(options: Options, root: str) -> Text:
     """Returns what writes the text."""
     switches = options.switches
     whole = [path for name, path in options.outputs if name in ("--json", "--html")]
+    if options.value("--format") == ASAN:
+        from .asan_text import AsanText
+        return AsanText(sys.stdout, Colors(False), root, False)
     return Text(sys.stdout, Colors(has_colors(options)), root, switches["--gen-suppressions"],
                 switches["--full-stacks"],
                 switches["--shadow"], " and ".join(whole))

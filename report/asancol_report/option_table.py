@@ -12,6 +12,8 @@ Output files:
   --codequality FILE   a Code Quality report of GitLab
   --html FILE          a page that needs no other file and no network
 Text:
+  --format FORM        whose text: asancol or asan (asancol)
+  --log-path PREFIX    write the text of asan to PREFIX.PID, too
   --live               print the first report of each place when it comes
   --crashes            crashes that a parent waited for, too
   --source-root DIR    show files under DIR by their paths from there
@@ -51,11 +53,13 @@ SHORT = {
     "-h": "--help",
 }
 WORDS = {
+    "--format": ("asancol", "asan"),
     "--color": ("auto", "always", "never"),
     "--leaks": ("summary", "no", "yes"),
     "--unchecked": ("list", "no", "error"),
 }
 DEFAULTS = {
+    "--format": "asancol",
     "--color": "auto",
     "--leaks": "summary",
     "--unchecked": "list",
@@ -71,6 +75,8 @@ WITH_VALUE = (
     "--junit",
     "--codequality",
     "--html",
+    "--format",
+    "--log-path",
     "--source-root",
     "--color",
     "--leaks",

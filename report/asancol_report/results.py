@@ -39,6 +39,7 @@ class Process(NamedTuple):
     findings: int = 0  # places that its recorder flags by itself
     is_awaited: bool = False  # its parent has waited for it, and the command has ended well all the same
     used_again: int = 0  # how many bytes of blocks it had handed out when freed memory came again; 0: it never has
+    has_halted: bool = False  # it has ended itself at its first report, by ASANCOL_HALT
 
     @property
     def is_crash(self) -> bool:
@@ -154,6 +155,10 @@ class Results:
         self.are_traces = False
         self.lists_unchecked = True  # what was not checked is said
         self.demands_checked = False  # and counts as not seen
+        # Where the modules of processes lay, by run and process: of those that have a report or a crash, if the text
+        # has addresses.
+        self.bases: Dict[Tuple[int, int], Dict[str, int]] = {}
+        self.has_addresses = False
 
     def add_run(self, run: Run) -> Optional[int]:
         """Adds a run and returns its number. None, if it is there already. One that was cut gives way to its whole."""
@@ -228,6 +233,14 @@ class Results:
         first = min(((run.time, run.host) for run in runs if run.time), default=(0.0, ""))
         return Sightings(len(runs), sorted({run.host for run in runs if run.host}), first[0],
                          max(run.time for run in runs), first[1])
+
+    def bases_of(self, finding: Finding) -> Dict[str, int]:
+        """Returns where the modules of a finding's first process lay, by their paths; nothing, if nobody knows."""
+        return self.bases.get((next(iter(finding.runs)), finding.first.process), {})
+
+    def has_halted(self, finding: Finding) -> bool:
+        process = self.first_process(finding)
+        return process is not None and process.has_halted
 
     def program_of(self, finding: Finding) -> str:
         """Returns the path of the program of a finding's first process."""

@@ -55,14 +55,25 @@ class Text:
         """Writes all findings that count, and the summary. Those of a live report were written before: their counts
         follow."""
         counted = results.counted()
-        for finding in counted if not is_live else ():
-            if finding.follows is None:
-                self.place(finding, seen=seen_text(results, finding))
+        if not is_live:
+            self.all_places(counted, results)
         for finding in counted[:MAX_PLACES] if is_live else ():
             if finding.count > 1:
                 self.write(iter([self.count_line(finding)]))
         self.write(self.left_out(sum(finding.follows is None for finding in counted)))
         self.write(self.summary(results))
+
+    def all_places(self, findings: Iterable[Finding], results: Results) -> None:
+        for finding in findings:
+            if finding.follows is None:
+                self.place(finding, seen=seen_text(results, finding))
+
+    def new_places(self, findings: Iterable[Finding], _: Results) -> None:
+        """Writes findings at once, without counts."""
+        new = set(findings)
+        for finding in sorted(new, key=lambda it: it.order):
+            if finding.counts and finding.follows not in new:
+                self.place(finding, times=False)
 
     def place(self, finding: Finding, times: bool = True, seen: str = "") -> None:
         """Writes a finding, if there were not too many before."""
@@ -196,7 +207,10 @@ class Text:
             yield f"asancol: {plural(results.gone, 'place')} of the baseline did not come up"
         for note in results.notes:
             yield f"asancol: {printable(self.short.get(note, note))}"
-        for finding in (*results.counted(), *results.counted_crashes())[:1]:
+        yield from self.last_line((*results.counted(), *results.counted_crashes())[:1])
+
+    def last_line(self, first: Iterable[Finding]) -> Iterator[str]:
+        for finding in first:
             yield f"SUMMARY: asancol: {finding.class_name} {self.place_of(finding.top)}"
 
     def crashes(self, results: Results, processes: Iterable[Process]) -> Iterator[str]:

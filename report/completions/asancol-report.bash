@@ -10,9 +10,13 @@ _asancol_report() {
         word=
     fi
     case $before in
-    --json | --sarif | --junit | --codequality | --html | --suppressions | --baseline)
+    --json | --sarif | --junit | --codequality | --html | --log-path | --suppressions | --baseline)
         mapfile -t COMPREPLY < <(compgen -f -- "$word")
         compopt -o filenames 2> /dev/null
+        return
+        ;;
+    --format)
+        mapfile -t COMPREPLY < <(compgen -W 'asancol asan' -- "$word")
         return
         ;;
     --source-root)
@@ -37,9 +41,9 @@ _asancol_report() {
         ;;
     esac
     if [[ $word == -* ]]; then
-        mapfile -t COMPREPLY < <(compgen -W '--json --sarif --junit --codequality --html --live --crashes --source-root
-            --color --full-stacks --shadow --unchecked --no-machines --quiet --leaks --suppressions --gen-suppressions
-            --baseline --trace --quarantine --memory --limit --run --help --version' -- "$word")
+        mapfile -t COMPREPLY < <(compgen -W '--json --sarif --junit --codequality --html --format --log-path --live
+            --crashes --source-root --color --full-stacks --shadow --unchecked --no-machines --quiet --leaks
+            --suppressions --gen-suppressions --baseline --trace --quarantine --memory --limit --run --help --version' -- "$word")
     else
         local end='*.jsonl'
         [[ " ${COMP_WORDS[*]} " == *' --trace '* ]] && end='*.trace'

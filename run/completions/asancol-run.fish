@@ -15,7 +15,7 @@ function _asancol_run_takes -a what
             case nono--
                 set ends yes
             case 'nono--*=*'
-            case nono--exitcode nono--error-exitcode nono--incomplete-exitcode nono--nothing-exitcode nono--at-least nono--wait nono--timeout nono--json nono--sarif nono--junit nono--codequality nono--html nono--keep nono--log-file nono--source-root nono--color nono--unchecked nono--leaks nono--suppressions nono--baseline nono--quarantine nono--memory nono--limit
+            case nono--exitcode nono--error-exitcode nono--incomplete-exitcode nono--nothing-exitcode nono--at-least nono--wait nono--timeout nono--json nono--sarif nono--junit nono--codequality nono--html nono--keep nono--log-file nono--format nono--log-path nono--source-root nono--color nono--unchecked nono--leaks nono--suppressions nono--baseline nono--quarantine nono--memory nono--limit
                 set skips yes
             case 'nono-*'
             case '*'
@@ -29,7 +29,7 @@ function _asancol_run_takes -a what
     end
 end
 
-complete -c asancol-run -n '_asancol_run_takes command' -x -a '(__fish_complete_subcommand --fcs-skip=1 - --exitcode --error-exitcode --incomplete-exitcode --nothing-exitcode --at-least --wait --timeout --json --sarif --junit --codequality --html --keep --log-file --source-root --color --unchecked --leaks --suppressions --baseline --quarantine --memory --limit)'
+complete -c asancol-run -n '_asancol_run_takes command' -x -a '(__fish_complete_subcommand --fcs-skip=1 - --exitcode --error-exitcode --incomplete-exitcode --nothing-exitcode --at-least --wait --timeout --json --sarif --junit --codequality --html --keep --log-file --format --log-path --source-root --color --unchecked --leaks --suppressions --baseline --quarantine --memory --limit)'
 complete -c asancol-run -n '_asancol_run_takes option' -l exitcode -x -d 'status if a report counts'
 complete -c asancol-run -n '_asancol_run_takes option' -l error-exitcode -x -d 'status if a report counts'
 complete -c asancol-run -n '_asancol_run_takes option' -l incomplete-exitcode -x -d 'status if not everything was seen'
@@ -44,6 +44,8 @@ complete -c asancol-run -n '_asancol_run_takes option' -l codequality -r -F -d '
 complete -c asancol-run -n '_asancol_run_takes option' -l html -r -F -d 'a page that needs no other file and no network'
 complete -c asancol-run -n '_asancol_run_takes option' -l keep -x -a '(__fish_complete_directories)' -d 'keeps the traces of processes with reports'
 complete -c asancol-run -n '_asancol_run_takes option' -l log-file -r -F -d 'where all lines go, not to standard error'
+complete -c asancol-run -n '_asancol_run_takes option' -l format -x -a 'asancol asan' -d 'whose text: asancol or asan'
+complete -c asancol-run -n '_asancol_run_takes option' -l log-path -x -d 'write the text of asan to PREFIX.PID, too'
 complete -c asancol-run -n '_asancol_run_takes option' -l live -d 'reports of a process when it ends, not all at the end'
 complete -c asancol-run -n '_asancol_run_takes option' -l crashes -d 'crashes that a parent waited for, too'
 complete -c asancol-run -n '_asancol_run_takes option' -l source-root -x -a '(__fish_complete_directories)' -d 'show files under DIR by their paths from there'

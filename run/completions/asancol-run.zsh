@@ -17,6 +17,8 @@ _arguments -S \
     '--html=[a page that needs no other file and no network]:file:_files' \
     '--keep=[keeps the traces of processes with reports]:folder:_files -/' \
     '--log-file=[where all lines go, not to standard error]:file:_files' \
+    '--format=[whose text: asancol or asan]:form:(asancol asan)' \
+    '--log-path=[write the text of asan to PREFIX.PID, too]:file:_files' \
     '--live[reports of a process when it ends, not all at the end]' \
     '--crashes[crashes that a parent waited for, too]' \
     '--source-root=[show files under DIR by their paths from there]:folder:_files -/' \
