@@ -225,7 +225,7 @@ struct side_settings {
     uint32_t is_one; /* 1: there is one segment, and the limit ends the recording */
     uint32_t halt;   /* as ASANCOL_HALT has it */
     uint32_t is_lean; /* 1: mallocs and frees are recorded where a fault needs them, so nothing is held for its bound */
-    uint32_t spare;
+    uint32_t has_halted; /* 1: it has ended itself by `halt`, at a report */
 };
 
 /* A thread that is not known. */

@@ -210,6 +210,8 @@ static void put_outcome(FILE *to, const struct outcome *outcome)
         fprintf(to, ",\"used_again\":%" PRIu64, outcome->used_again);
     if (outcome->answer == UP_TO_THERE)
         fputs(",\"abrupt\":true", to);
+    if (outcome->has_halted)
+        fputs(",\"halted\":true", to);
 }
 
 static void put_file(FILE *to, const char *name, const char *path)

@@ -267,6 +267,7 @@ static struct outcome add_up(const struct segment *front)
         add(&joined, &at->outcome);
         joined.fate = at->outcome.fate;
         joined.signal = at->outcome.signal;
+        joined.has_halted = at->outcome.has_halted;
         joined.is_crash = at->outcome.is_crash;
         joined.is_ignored = at->outcome.is_ignored;
     }

@@ -451,7 +451,9 @@ static void judge(struct segment *segment)
     bool is_unheard = outcome->ending == ENDING_NONE && !(facts & REPLACED);
     if ((row->answer == UP_TO_THERE || row->answer == BEFORE_MAIN) && is_unheard)
         outcome->signal = unheard_signal(segment);
-    outcome->is_crash = is_crash(outcome->signal);
+    bool may_have_halted = segment->side != NULL && outcome->signal == SIGABRT;
+    outcome->has_halted = may_have_halted && side_settings(segment->side).has_halted != 0;
+    outcome->is_crash = is_crash(outcome->signal) && !outcome->has_halted;
     outcome->is_ignored = outcome->is_crash && ignores_deaths(segment->process->parent);
     say_why(segment, row->answer, row->why);
     outcome->is_settled = is_settled(segment, fate, facts);

@@ -6,14 +6,13 @@
    What is preloaded and waits begins there too, and the process goes on. */
 #include "process/halt.h"
 
-#include <string.h>
-
-#include "base/say.h"
 #include "base/self.h"
+#include "process/halt_report.h"
 #include "process/process.h"
 #include "process/signals.h"
 #include "process/waiting.h"
 #include "stream/record.h"
+#include "stream/side.h"
 #include "stream/state.h"
 
 static _Atomic bool is_crashing;
@@ -37,16 +36,11 @@ static void record(enum code code, unsigned width, uint64_t address, uintptr_t c
         record_piece_of(code, width, address, caller, whole);
 }
 
-static void say_where(enum code code, uint64_t address)
+/* The process says itself what is wrong: it may be the only one that does. */
+static void say_what(enum code code, unsigned width, uint64_t address, uintptr_t caller, const struct access *whole)
 {
-    static const char *const names[] = {
-        [CODE_LOAD] = "a bad load", [CODE_STORE] = "a bad store", [CODE_FREE] = "a bad free"};
-    char digits[] = "at 000000000000";
-    for (size_t i = sizeof digits - 1; i-- > strlen("at ");) {
-        digits[i] = "0123456789abcdef"[address % 16];
-        address /= 16;
-    }
-    recorder_say("the process ends: ", names[code], digits);
+    struct access alone = access_of(code, address, width, caller, NULL);
+    halt_report(whole != NULL ? whole : &alone, width, address);
 }
 
 void halt_at(enum code code, unsigned width, uint64_t address, uintptr_t caller, struct access *whole)
@@ -65,8 +59,9 @@ void halt_at(enum code code, unsigned width, uint64_t address, uintptr_t caller,
         return;
     if (recorder_begins_late() && recorder_begin_late())
         record(code, width, address, caller, whole);
+    side_note_halted();
     recorder_finish(FINISH_CLOSED);
-    say_where(code, address);
+    say_what(code, width, address, caller, whole);
     if (is_telling() && code == CODE_FREE)
         above.tell(&(struct told){.code = code, .caller = caller, .address = address, .call = whole->call});
     else if (is_telling())

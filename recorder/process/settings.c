@@ -14,6 +14,9 @@
 #include "base/system.h"
 #include "process/orphan.h"
 
+/* What libFuzzer and others call is a target, which ends at its first fault unless it is told not to. */
+extern int LLVMFuzzerTestOneInput(const unsigned char *, size_t) __attribute__((weak));
+
 #define PREFIX "ASANCOL_"
 
 /* All that the recorder and its tools read. */
@@ -228,7 +231,7 @@ static void read_options_of_asan(struct settings *settings)
     enum { LEAKS_IN_ANY_CASE = 2 };
     asan_options_read(value_of("ASAN_OPTIONS"), value_of("LSAN_OPTIONS"));
     uint64_t held = asan_options_hold(MAX_QUARANTINE, QUARANTINE_BOUND);
-    uint64_t halt = asan_options_say(ASAN_halt_on_error, false) ? HALT : HALT_NEVER;
+    uint64_t halt = asan_options_say(ASAN_halt_on_error, LLVMFuzzerTestOneInput != NULL) ? HALT : HALT_NEVER;
     uint64_t returns = asan_options_say(ASAN_detect_stack_use_after_return, true);
     uint64_t leaks = number_of("ASANCOL_LEAKS", 0, LEAKS_IN_ANY_CASE, 0);
     bool mismatches = number_of("ASANCOL_MISMATCHES", 0, 1, 1) == 1;

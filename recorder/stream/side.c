@@ -527,6 +527,13 @@ void side_note_first_name(void)
     } while (memcmp(note.name, again.name, sizeof note.name) != 0);
 }
 
+void side_note_halted(void)
+{
+    struct side *side = side_now();
+    if (side != NULL)
+        put_word(&((struct side_settings *)((unsigned char *)side + SIDE_SETTINGS))->has_halted, 1);
+}
+
 void side_note_inside(int number)
 {
     struct side *side = side_now();

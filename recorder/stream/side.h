@@ -87,6 +87,8 @@ struct side_last {
     uint64_t call_site, address;
     uint32_t stack, thread, how;
 };
+/* The process ends itself at its first report. */
+void side_note_halted(void);
 void side_note_last(const struct side_last *last);
 /* The first thread was given the name that stands in its notes (thread_notes.h). */
 void side_note_first_name(void);

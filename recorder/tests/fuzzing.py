@@ -35,7 +35,7 @@ def check_fault(suite: Suite, folder: str, program: str, name: str, wrong: str) 
         for recorded in (True, False):
             settings = {"ASANCOL_TRACE": "%p.trace"} if recorded else {}
             ran = run([program, name], folder, ASANCOL_HALT=halt, **settings)
-            expect((ran.returncode, ran.stderr.count(b"asancol: the process ends: ")), (ABORTED, 1), ran.stderr)
+            expect((ran.returncode, ran.stderr.count(b"==ERROR: AddressSanitizer: ")), (ABORTED, 1), ran.stderr)
             expect(len(traces(folder)), int(recorded), "traces")
             for path in traces(folder):
                 status, texts, end = reports(suite.asancol, path)
@@ -84,7 +84,7 @@ def check_threads(suite: Suite, folder: str, program: str) -> None:
     for halt in ("1", "2"):
         for _ in range(20):
             ran = run([program, "threads"], folder, ASANCOL_HALT=halt, ASANCOL_TRACE="%p.trace")
-            expect((ran.returncode, ran.stderr.count(b"the process ends: ")), (ABORTED, 1), ran.stderr)
+            expect((ran.returncode, ran.stderr.count(b"==ERROR: AddressSanitizer: ")), (ABORTED, 1), ran.stderr)
             status, texts, end = reports(suite.asancol, traces(folder)[0])
             expect((status, end.split()[0], 1 <= len(texts) <= 8), (1, "closed", True), texts)
             os.unlink(traces(folder)[0])
@@ -126,7 +126,7 @@ int main(void) { static uint8_t data[4096]; size_t size = fread(data, 1, sizeof 
 
 def check_libfuzzer(suite: Suite, folder: str, compiler: Compiler, is_cpp: bool) -> None:
     """It finds the bug, writes the input, and leaves one trace, which asancol judges. Without ASANCOL_HALT it finds
-    nothing."""
+    the bug, too; with 0 it finds nothing."""
     name = "target.cpp" if is_cpp else "target.c"
     with open(f"{folder}/{name}", "w", encoding="utf-8") as file:
         file.write(TARGET if not is_cpp else TARGET.replace("int LLVM", 'extern "C" int LLVM'))
@@ -139,8 +139,12 @@ def check_libfuzzer(suite: Suite, folder: str, compiler: Compiler, is_cpp: bool)
     expect((status, len(texts), end.split()[0]), (1, 1, "closed"), texts)
     with open(glob.glob(f"{folder}/crash-*")[0], "rb") as file:
         expect(file.read(3), b"BUG", "the input")
-    quiet = run(["./target", "-seed=1", "-runs=20000", "-max_len=64"], folder)
-    expect(quiet.returncode, 0, "without ASANCOL_HALT")
+    os.mkdir(f"{folder}/in")
+    write(f"{folder}/in", seed="BUGS")
+    ran = run(["./target", "-runs=0", "in"], folder)
+    expect((ran.returncode, ran.stderr.count(b"ERROR: AddressSanitizer: heap-buffer-overflow ")), (77, 1), ran.stderr)
+    quiet = run(["./target", "-runs=0", "in"], folder, ASANCOL_HALT="0")
+    expect(quiet.returncode, 0, "with ASANCOL_HALT=0")
 
 
 # Not recorded, and recorded.

@@ -208,7 +208,7 @@ class AsanText(Text):
                 yield from self.crash(crash, process, results.bases_of(crash))
 
     def crash(self, crash: Crash, process: Process, bases: Bases) -> Iterator[str]:
-        pid, pc = process.pid, self.pc(crash.stack, bases)
+        pid, pc = process.pid, max(self.pc(crash.stack, bases) - 1, 0)
         address = pc if process.address is None else process.address
         thread = thread_name(process.threads, process.threads.access)
         on = "on address" if crash.class_name == "stack-overflow" else "on unknown address"

@@ -6,6 +6,7 @@ any symbol is looked up. So what is held grows with the places in the program, a
 
 from __future__ import annotations
 
+from copy import copy
 from typing import Callable, cast, Dict, Hashable, List, NamedTuple, Optional, Tuple
 
 from .by_recorder import definition, FORMS, lost_at
@@ -15,7 +16,7 @@ from .findings import (Block, DYNAMIC, Finding, Frame, GLOBAL, HEAP, Rows, STACK
                        Threads, UNKNOWN_THREAD)
 from .leaks import at_one_place, Leaks, Sum, SUMMARY, YES
 from .modules import CodeAddress, Modules
-from .results import Results
+from .results import Process, Results
 from .side import (
     ENDING_SIGNAL, Fault, FINDING_INDIRECT_LEAK, FINDING_LEAK, Last, Side, Thread as SideThread, VARIABLE_DYNAMIC,
     VARIABLE_FORGOTTEN, VARIABLE_NONE, VARIABLE_STACK,
@@ -76,6 +77,16 @@ class Crashed(NamedTuple):
     created: List[Calls]
 
 
+class Came:
+    """What was taken in last: findings as their process has them, and processes that a signal has ended."""
+
+    __slots__ = ("findings", "processes")
+
+    def __init__(self) -> None:
+        self.findings: List[Finding] = []
+        self.processes: List[Process] = []
+
+
 class Gatherer:
     """Takes in the processes of one run."""
 
@@ -94,6 +105,7 @@ class Gatherer:
         self.frames: Dict[CodeAddress, Stack] = {}
         # Where each process was that a signal has ended, by its number.
         self.last: Dict[int, Crashed] = {}
+        self.came = Came()
         # The processes of each finding that was seen, by its identity.
         self.seen_in: Dict[int, int] = {}
 
@@ -228,6 +240,8 @@ class Gatherer:
             times = sighting.count or int(known is None)  # pieces alone are none, if they are pieces of what is known
             first = sighting.first._replace(times=times, processes=added, lost=sighting.lost)
             self.results.add(finding, self.run, first)
+            if self.results.has_log:
+                self.came.findings.append(finding_alone(sighting, self.run))
         self.sightings.clear()
         self.note_last()
         return new
@@ -241,6 +255,8 @@ class Gatherer:
                 processes[number] = processes[number]._replace(
                     stack=self.stack(calls, ""), address=last.address, access=last.access, crash=crash,
                     threads=self.with_stacks(threads, created))
+                if self.results.has_log:
+                    self.came.processes.append(processes[number])
         self.last.clear()
 
     def complete(self, sighting: Sighting) -> Finding:
@@ -295,6 +311,13 @@ class Gatherer:
                           caret=self.sources.caret(it.file, it.line, it.column, module.built))
             for number, it in enumerate(names)
         )
+
+
+def finding_alone(sighting: Sighting, run: int) -> Finding:
+    """Returns a finding as one process has it."""
+    finding = copy(sighting.finding)
+    finding.runs = {run: sighting.first._replace(times=1, processes=1, lost=sighting.lost)}
+    return finding
 
 
 def finding_of(report: Report, fault: Optional[Fault]) -> Finding:

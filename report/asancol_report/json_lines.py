@@ -78,6 +78,8 @@ def process_line(process: Process, run: int, crash: Optional[Crash], encode: Cal
         kept += ',"abrupt":true'
     if process.is_awaited:
         kept += ',"awaited":true'
+    if process.has_halted:
+        kept += ',"halted":true'
     if process.findings:
         kept += f',"findings":{process.findings}'
     if process.segments > 1:
@@ -324,7 +326,8 @@ def process_of(entry: Entry, commands: Commands) -> Process:
                    text_of(get("crash")), text_of(get("fingerprint")),
                    next((it for it in ACCESSES.values() if it == get("access")), ""),
                    threads_of(entry) if "threads" in entry or "thread" in entry else NO_THREADS,
-                   number_of(get("findings")), get("awaited") is True, number_of(get("used_again")))
+                   number_of(get("findings")), get("awaited") is True, number_of(get("used_again")),
+                   get("halted") is True)
 
 
 def frame_of(entry: object) -> Frame:

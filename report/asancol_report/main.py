@@ -6,6 +6,7 @@ import os
 import signal
 import stat
 import sys
+from functools import partial
 from typing import Callable, List, Optional, TextIO, Tuple
 
 from . import options as command_line
@@ -27,6 +28,7 @@ TYPE_CHECKING = False
 if TYPE_CHECKING:
     from .baseline import Baseline
     from .hub import Files
+    from .log_path import LogPath
 
 # AddressSanitizer's text.
 ASAN = "asan"
@@ -62,6 +64,21 @@ class Report:
         self.has_failed = False
         self.unread: List[Tuple[str, str]] = []  # files that could not be read to their end, and why
         self.text = text_of(options, self.root)
+        self.log = self.log_path()
+
+    def log_path(self) -> Optional[LogPath]:
+        prefix = self.options.value("--log-path")
+        if not prefix:
+            return None
+        from .log_path import LogPath
+        self.results.has_log = True
+        return LogPath(prefix, self.root, self.results, self.counts)
+
+    def write_log(self, write: Callable[[], None]) -> None:
+        try:
+            write()
+        except Broken as error:
+            self.fail(error)
 
     @property
     def is_live(self) -> bool:
@@ -80,6 +97,8 @@ class Report:
             if all(run.cut != why for run in self.results.runs):
                 self.results.add_cut(path, why)
         self.judge()
+        if self.log is not None:
+            self.write_log(self.log.take_others)
         self.results.unused = self.suppressions.unused()
         self.results.gone = self.baseline.gone() if self.baseline else None
         for trouble in self.symbols.troubles():
@@ -217,9 +236,13 @@ class Report:
 
     def come(self, gatherer: Gatherer) -> None:
         """Prints what is new, if it is to be printed at once."""
-        if not self.is_live:
+        if not self.is_live and self.log is None:
             return
         new = gatherer.finish()
+        if self.log is not None:
+            self.write_log(partial(self.log.take, gatherer))
+        if not self.is_live:
+            return
         self.suppressions.apply(new)
         if self.baseline:
             self.baseline.apply(new)

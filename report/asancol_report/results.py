@@ -44,7 +44,7 @@ class Process(NamedTuple):
     @property
     def is_crash(self) -> bool:
         """Whether a signal has ended it that stands for a mistake."""
-        return self.signal in CRASHES
+        return self.signal in CRASHES and not self.has_halted
 
     @property
     def crash_class(self) -> str:
@@ -159,6 +159,7 @@ class Results:
         # has addresses.
         self.bases: Dict[Tuple[int, int], Dict[str, int]] = {}
         self.has_addresses = False
+        self.has_log = False  # each process has a file of its own
 
     def add_run(self, run: Run) -> Optional[int]:
         """Adds a run and returns its number. None, if it is there already. One that was cut gives way to its whole."""

@@ -121,10 +121,15 @@ def check(kept: Kept, compiler: Compiler, source: str) -> List[Verdict]:
     return [it._replace(where=f"run {number}") for number, it in enumerate(verdicts, 1)]
 
 
+def sources() -> List[str]:
+    """The files that have RUN lines, in their order."""
+    return [it for it in sorted(glob.glob(f"{TREE}/**/*.c*", recursive=True))
+            if it.endswith((".c", ".cpp")) and "/Helpers/" not in it]
+
+
 def jobs(kept: Kept, compilers: Sequence[Compiler]) -> Iterator[Job]:
     for compiler in compilers:
         if compiler.name == "clang" and compiler.cxx:
-            for source in sorted(glob.glob(f"{TREE}/**/*.c*", recursive=True)):
-                if source.endswith((".c", ".cpp")) and "/Helpers/" not in source:
-                    run = functools.partial(check, kept, compiler, source)
-                    yield Job("compiler-rt", os.path.relpath(source, TREE), run)
+            for source in sources():
+                run = functools.partial(check, kept, compiler, source)
+                yield Job("compiler-rt", os.path.relpath(source, TREE), run)

@@ -1,12 +1,14 @@
 #!/usr/bin/env python3
 """Runs a program once, with AddressSanitizer's runtime or recorded, and notes its first report.
 
-usage: execute.py real|recorded FOLDER PROGRAM [ARGUMENT..]
+usage: execute.py real|recorded|text FOLDER PROGRAM [ARGUMENT..]
 
-What was noted is added as a line to FOLDER/executions. Output and status are those of the program.
+What was noted is added as a line to FOLDER/executions. Output and status are those of the program. With `text` it ends
+at its first report as with AddressSanitizer, and its output has the text of --log-path, in the words of LLVM 14.
 """
 
 import contextlib
+import glob
 import json
 import os
 import re
@@ -196,13 +198,32 @@ def execute(way: str, argv: Sequence[str], folder: str, notes: str, stdout: Any 
         argv = [*front, "--", *argv]
         with contextlib.suppress(FileNotFoundError):
             os.unlink(result)
+    if way == "text":
+        all_settings["ASANCOL_HALT"] = "0" if "halt_on_error=0" in options else "1"
+        argv = [argv[0], "--log-path", f"{notes}/log", *argv[1:]]
     status, errors = run(argv, folder, all_settings, stdout)
+    if way == "text":
+        errors = with_text(errors, notes)
     with open(f"{notes}/errors", "w", encoding="utf-8") as file:
         file.write(errors)
     # What a unit test says of its deaths is no report.
     said = "".join(it for it in errors.splitlines(True) if not it.startswith("DEJAGNU_GTEST_EXPECT_DEATH"))
     report = report_by_sanitizer(said) if way == "real" else report_by_asancol(result)
     return Execution(status, report, other_option(options))
+
+
+def with_text(errors: str, notes: str) -> str:
+    """Returns what a program has printed, with the text of its files in the place of what it says at its halt."""
+    texts = ""
+    for path in sorted(glob.glob(f"{notes}/log.*")):
+        with open(path, encoding="utf-8", errors="replace") as file:
+            texts += file.read()
+        os.unlink(path)
+    for words, before in (("after", "to the right of"), ("before", "to the left of")):
+        texts = re.sub(rf"(is located \d+ bytes) {words}", rf"\1 {before}", texts)
+    halted = re.search(r"(?ms)^=+\n==\d+==ERROR: AddressSanitizer: .*?^==\d+==ABORTING\n", errors)
+    at, end = halted.span() if halted else (len(errors), len(errors))
+    return errors[:at] + texts + errors[end:]
 
 
 def main() -> int:
