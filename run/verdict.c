@@ -337,6 +337,7 @@ static void read_side(struct segment *segment)
     outcome->left_out = side != NULL ? side->left_out : 0;
     outcome->has_checks = !process_is_unseen(segment->process) && (side == NULL || side->has_checks != 0);
     outcome->signal = outcome->ending == ENDING_SIGNAL ? side->signal : 0;
+    outcome->has_halted = outcome->signal == SIGABRT && side_settings(side).has_halted != 0;
     struct side_progress progress = side != NULL ? side_progress(side) : (struct side_progress){0};
     read_findings(outcome, &progress, side != NULL ? side_entries(side) : 0); /* after the progress: both grow */
     outcome->stated = progress.stated < outcome->events ? progress.stated : outcome->events;
@@ -451,8 +452,6 @@ static void judge(struct segment *segment)
     bool is_unheard = outcome->ending == ENDING_NONE && !(facts & REPLACED);
     if ((row->answer == UP_TO_THERE || row->answer == BEFORE_MAIN) && is_unheard)
         outcome->signal = unheard_signal(segment);
-    bool may_have_halted = segment->side != NULL && outcome->signal == SIGABRT;
-    outcome->has_halted = may_have_halted && side_settings(segment->side).has_halted != 0;
     outcome->is_crash = is_crash(outcome->signal) && !outcome->has_halted;
     outcome->is_ignored = outcome->is_crash && ignores_deaths(segment->process->parent);
     say_why(segment, row->answer, row->why);

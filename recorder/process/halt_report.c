@@ -95,6 +95,8 @@ static void put_error(void)
 
 /* Frames. */
 
+#if __GLIBC_PREREQ(2, 35) && !defined IS_STATIC
+
 /* The path of a module. The program itself has no name with the loader. */
 static const char *path_of(const struct link_map *module)
 {
@@ -109,7 +111,6 @@ static const char *path_of(const struct link_map *module)
 /* " (MODULE+0xOFFSET)", if it is known where that is: it is asked without a lock. */
 static void put_module(uintptr_t address)
 {
-#if __GLIBC_PREREQ(2, 35) && !defined IS_STATIC
     struct dl_find_object found = {0};
     if (library._dl_find_object == NULL || library._dl_find_object((void *)address, &found) != 0)
         return;
@@ -118,10 +119,16 @@ static void put_module(uintptr_t address)
     put("+");
     put_hexadecimal(address - (uintptr_t)found.dlfo_map_start, 1);
     put(")");
-#else
-    (void)address;
-#endif
 }
+
+#else
+
+static void put_module(uintptr_t address)
+{
+    (void)address;
+}
+
+#endif
 
 static void put_frame(unsigned number, uintptr_t after_call, const char *function)
 {

@@ -70,7 +70,7 @@ static void thread() {
 
 static void null() { *reinterpret_cast<volatile int *>(static_cast<size_t>(zero)) = 1; }
 
-static void division() { zero = 1 / zero; }
+static void division() { zero = 7 / zero; }
 
 static void lost() {
     kept = block(7);

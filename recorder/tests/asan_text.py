@@ -5,7 +5,8 @@ import glob
 import os
 import re
 
-from support import TESTS, expect, expect_in, leave_out, run
+from support import TESTS, expect, leave_out, run
+from testing import expect_in
 from testing.programs import TOP
 
 RUN = f"{TOP}/run/asancol-run"
@@ -44,13 +45,20 @@ def normal(text):
         line = re.sub(r"(SUMMARY: AddressSanitizer: [a-zA-Z-]+) .*", r"\1", line)
         if not is_below and not LEFT_OUT.match(line):
             lines.append(line.rstrip())
+    # A second global that is near; and what the second range of a call lies beside.
+    others = [at for at, it in enumerate(lines) if it.startswith("0x is located ")][1:]
+    for at in others:
+        end = next(here for here in range(at, len(lines)) if lines[here].startswith("SUMMARY"))
+        del lines[at:end]
     while lines and not lines[0].startswith(("===", "AddressSanitizer:DEADLY")):
         lines.pop(0)
     return lines
 
 
-def without_frames(lines):
-    return [it for it in lines if not it.startswith("    ")]
+def said_at_halt(text):
+    """What the process itself says of a report, without frames: nothing of variables, nor of where threads began."""
+    lines = [it for it in normal(text) if it and not it.startswith(("    ", "  ", "Shadow "))]
+    return [it for it in lines if not re.match(r"Address 0x is|0x is .* global|Thread T", it)]
 
 
 def built(suite, compiler):
@@ -61,7 +69,8 @@ def built(suite, compiler):
 
 def recorded(suite, folder, program, name, *options, **settings):
     """What asancol-run prints of a mistake, and what the process has in its file."""
-    argv = [RUN, "--leaks=yes", f"--log-path={folder}/log", *options, "--", program, name]
+    leaks = "yes" if name == "lost" else "no"
+    argv = [RUN, f"--leaks={leaks}", f"--log-path={folder}/log", *options, "--", program, name]
     ran = run(argv, folder, ASANCOL=suite.asancol, **settings)
     paths = glob.glob(f"{folder}/log.*")
     expect(len(paths), 1, f"files: {ran.stderr.decode()}")
@@ -83,15 +92,14 @@ def check_beside(suite, folder, real, ours, name):
 def check_halts(suite, folder, real, ours, name):
     """The process says itself what is wrong, on whatever descriptor 2 is; its end is no crash, and there is one
     report."""
-    wanted = without_frames(normal(run([real, name], folder).stderr.decode()))
-    cut = next((at for at, it in enumerate(wanted) if re.match(r"Address 0x is|0x is .* global", it)), None)
+    wanted = said_at_halt(run([real, name], folder).stderr.decode())
     alone = run([ours, name], folder, ASANCOL_HALT="1")
     expect(alone.returncode, -6, "the status")
-    said = without_frames(normal(alone.stderr.decode()))
-    shadow = next(at for at, it in enumerate(wanted) if it.startswith("SUMMARY"))
-    expect(said, wanted[:cut] + [wanted[shadow]] if cut else wanted[:shadow + 1], "alone")
-    expect_in(alone.stderr.decode(), "ABORTING\n", f"({ours}+0x")
+    is_kept = re.compile("(?:previously )?(?:allocated|freed) by ")
+    expect(said_at_halt(alone.stderr.decode()), [it for it in wanted if not is_kept.match(it)], "alone")
+    expect_in(alone.stderr.decode(), "==ABORTING\n", f"({ours}+0x")
     ran, text = recorded(suite, folder, ours, name, ASANCOL_HALT="1")
+    expect(said_at_halt(ran.stderr.decode().partition("ABORTING\n")[0] + "ABORTING"), wanted, "recorded")
     expect_in(ran.stderr.decode(), "asancol: 1 report at 1 place; 1 process, ", "; all complete\n")
     expect("ended by" in ran.stderr.decode() or "halt_at" in ran.stderr.decode(), False, ran.stderr.decode())
     expect(text.count("ERROR: "), 1, text)
@@ -127,7 +135,7 @@ TOOLS = (
     ("VS Code, CLion", r"(?m)^    #\d+ 0x[0-9a-f]+ in .+ (/.+):(\d+):(\d+)$", ALL),
     ("all", r"(?m)^SUMMARY: AddressSanitizer: (?:[\w-]+ \S+:\d+(?::\d+)? in \w+|\d+ byte\(s\) leaked in \d+ "
      r"allocation\(s\)\.)", ALL),
-    ("asan_symbolize.py", r"(?m)^ *#(\d+) (0x[0-9a-f]+) +in \S+ +\((.+)\+(0x[0-9a-f]+)\)",
+    ("asan_symbolize.py", r"(?m)^ *#(\d+) (0x[0-9a-f]+) +in .+ +\((.+)\+(0x[0-9a-f]+)\)",
      (*FREES, "copy", "freed", "lost", "family", "overlap")),
 )
 

@@ -9,6 +9,8 @@ is run as its RUN lines or its dg- directives say, with -fsanitize=address, and 
 execution the first report is compared: its class, its line, and the lines where the block was allocated and freed; or
 the status if there is no report.
 
+The suite `text` looks for what compiler-rt's tests look for with FileCheck, in the text of --log-path.
+
 For each suite it prints how many tests have the same, another class or line, no report, a false one, or were left out
 since they are about what is not claimed (tables.py). Each test that is not the same is named, with the reason if it is
 known. The last line is 'N passed, M failed': a known one passes, if it is still so. A word chooses a suite, or tests
@@ -25,7 +27,7 @@ from typing import Iterable, List, Optional, Sequence, Union
 
 sys.path.insert(0, f"{os.path.dirname(os.path.realpath(__file__))}/../..")  # where `testing` is
 
-from beside import compiler_rt, gcc, units
+from beside import compiler_rt, gcc, text, units
 from beside.compare import FALSE, LEFT_OUT, MISSED, OTHER, SAME, Job, Outcome, Verdict
 from beside.fetch import fetch
 from beside.programs import OUT, Kept
@@ -33,7 +35,7 @@ from beside.tables import KNOWN, OUTSIDE, Row
 from support import Failure, compilers
 from testing.suite import read, reader_of
 
-SUITES = (compiler_rt, gcc, units)
+SUITES = (compiler_rt, gcc, units, text)
 COLUMNS = (SAME, OTHER, MISSED, FALSE, LEFT_OUT)
 
 

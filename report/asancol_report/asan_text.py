@@ -73,7 +73,7 @@ class AsanText(Text):
         yield from self.where_it_is(finding, bases)
         yield from self.created(finding.threads, bases)
         yield f"SUMMARY: AddressSanitizer: {finding.class_name} {self.place_of(finding.top)}"
-        if finding.rows.shadow and not finding.by_recorder:
+        if finding.rows.shadow and finding.access in ACCESSES and finding.class_name != NEGATIVE_SIZE:
             yield from shadow_rows.lines(finding.rows, asan_address(finding))
             yield LEGEND
         if finding.class_name in HINTS:
@@ -314,7 +314,7 @@ def words_of_call(finding: Finding, address: str, thread: str) -> str:
     if name in ALIGNMENTS.values():
         return f"{name}: {finding.said} (thread {thread})"
     if finding.by_recorder:
-        return f"{name}: {finding.said}"
+        return f"{name}: {finding.said.replace(', ', ',', 1) if name.endswith('-overlap') else finding.said}"
     return f"{name} on address {address} in thread {thread}"
 
 
