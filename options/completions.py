@@ -124,7 +124,8 @@ def bash_of_value(kind: str, words: Sequence[str]) -> List[str]:
     """Returns what completes a value of a kind."""
     if kind == "words":
         return [reply(f'compgen -W {quoted(" ".join(words))} -- "$word"')]
-    letter = {"folder": "d", "input": "f", "output": "f", "prefix": "f", "file": "f", "command": "c", "group": "g"}.get(kind)
+    letter = {"folder": "d", "input": "f", "output": "f", "prefix": "f", "file": "f", "command": "c",
+              "group": "g"}.get(kind)
     names = ["compopt -o filenames 2> /dev/null"] if letter in ("d", "f") else []
     return [reply(f'compgen -{letter} -- "$word"'), *names] if letter else []
 

@@ -207,8 +207,9 @@ static void put_region(uint64_t address, const struct nearest *block)
     uint64_t end = block->start + block->size;
     put_address(address);
     put(" is located ");
-    put_number(address < block->start ? block->start - address : address < end ? address - block->start : address - end);
-    put(address < block->start ? " bytes before " : address < end ? " bytes inside of " : " bytes after ");
+    bool is_before = address < block->start, is_after = address >= end;
+    put_number(is_before ? block->start - address : is_after ? address - end : address - block->start);
+    put(is_before ? " bytes before " : is_after ? " bytes after " : " bytes inside of ");
     put_number(block->size);
     put("-byte region [");
     put_address(block->start);

@@ -108,8 +108,8 @@ def check_halts(suite, folder, real, ours, name):
 
 
 # From the sources of tools, as of 2024; each has to find its groups in the text of some mistakes.
-FRAME_OF_CLUSTERFUZZ = r"(?m)^\s*#(?P<id>\d+)\s+(?P<address>0x[0-9a-fA-F]+)\s+in\s+(?P<function>.+)\s+(?:\(?(?P<file>\S+?)" \
-    r"(?::(?P<line>\d+))?(?::\d+)?\)?)(?: \(BuildId: \w+\))?$"
+FRAME_OF_CLUSTERFUZZ = r"(?m)^\s*#(?P<id>\d+)\s+(?P<address>0x[0-9a-fA-F]+)\s+in\s+(?P<function>.+)\s+" \
+    r"(?:\(?(?P<file>\S+?)(?::(?P<line>\d+))?(?::\d+)?\)?)(?: \(BuildId: \w+\))?$"
 TOOLS = (
     ("ClusterFuzz", r".*ERROR: AddressSanitizer[: ]*([^(:;]+)", ALL[:-4] + ("overlap", "family", "type")),
     ("ClusterFuzz", r"ERROR: [a-zA-Z]+Sanitizer[: ]*(.*) on (?:unknown |)(?:address |)(0x[0-9a-f]+)",
@@ -118,7 +118,8 @@ TOOLS = (
     ("ClusterFuzz", r"ERROR: AddressSanitizer[: ]*attempting free on address which was not malloc", ("inside",)),
     ("ClusterFuzz", r"The signal is caused by a ([A-Z]+) memory access\.", ("null",)),
     ("ClusterFuzz", FRAME_OF_CLUSTERFUZZ, ALL),
-    ("ClusterFuzz", r"(?m)^(?:Direct|Indirect) leak of (\d+) byte\(s\) in (\d+) object\(s\) allocated from:$", ("lost",)),
+    ("ClusterFuzz", r"(?m)^(?:Direct|Indirect) leak of (\d+) byte\(s\) in (\d+) object\(s\) allocated from:$",
+     ("lost",)),
     ("CASR", r"==\d+==\s*ERROR: (LeakSanitizer|AddressSanitizer): (.*)\n", ALL),
     ("CASR", r"(?m)^ *#[0-9]+ +0x[0-9a-f]+ in main .*:\d+:?\d*$", ALL),
     ("CASR, crashwalk", r"(READ|WRITE) of size (\d+) at (0x[0-9a-f]+) thread T(\d+)", ACCESSES),

@@ -2,7 +2,8 @@
 
 from __future__ import annotations
 
-from typing import Dict, Iterable, Iterator, List, Tuple
+import re
+from typing import Dict, Iterable, Iterator, List, Optional, Tuple
 
 from . import shadow_rows
 from .by_recorder import signed
@@ -30,6 +31,10 @@ HINTS = {MISMATCH: "alloc_dealloc_mismatch", SIZE_MISMATCH: "new_delete_type_mis
 # What stands in its legend, and in ours not.
 LEGEND = shadow_rows.LEGEND.replace("06 07\n", "06 07 \n").replace(
     "f9\n", "f9\n  Global init order:       f6\n").replace("bb\n", "bb\n  ASan internal:           fe\n")
+
+# What the recorder says of two alignments, and of another size.
+ALIGNMENTS_SAID = re.compile(r"(?: of (?P<size>\d+) bytes?)? with (?:alignment (?P<said>\d+)|no alignment), and .* with "
+                             r"(?:alignment (?P<made>\d+)|no alignment) ")
 
 # Where the modules of a process lay, by their paths.
 Bases = Dict[str, int]
@@ -321,9 +326,16 @@ def words_of_call(finding: Finding, address: str, thread: str) -> str:
 def sizes_of(finding: Finding) -> Iterator[str]:
     """What a delete has said of its object, and what was allocated."""
     allocated = finding.block.size if finding.block else 0
+    other = ALIGNMENTS_SAID.search(finding.said)
+    size = finding.size if other is None else other["size"]
     yield "  object passed to delete has wrong type:"
-    if finding.size is not None:
+    if size is not None:
         yield f"  size of the allocated type:   {allocated} bytes;"
-        yield f"  size of the deallocated type: {finding.size} bytes."
-    else:
-        yield f"  {finding.said}"
+        yield f"  size of the deallocated type: {size} bytes."
+    if other is not None:
+        yield f"  alignment of the allocated type:   {aligned(other['made'])};"
+        yield f"  alignment of the deallocated type: {aligned(other['said'])}."
+
+
+def aligned(alignment: Optional[str]) -> str:
+    return f"{alignment} bytes" if alignment else "default-aligned"

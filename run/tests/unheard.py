@@ -350,7 +350,8 @@ def check_lost_environment(suite: Suite, folder: str) -> None:
     expect_ran(ran, 99, "1 process in 2 runs, ")
     expect_ran(suite.run("--", "env", "-i", "ASANCOL_TRACE=x", "./good", cwd=folder), 98,
                "./good: INCOMPLETE: ASANCOL_TRACE is set for it, so its trace is there")
-    for name, text in (("ASANCOL_LIMIT", "reached the event limit: "), ("ASANCOL_HALT", "ERROR: AddressSanitizer: heap-")):
+    for name, text in (("ASANCOL_LIMIT", "reached the event limit: "),
+                       ("ASANCOL_HALT", "ERROR: AddressSanitizer: heap-")):
         ran = suite.run("--", "env", "-i", "./lost", "f", cwd=folder, ASANCOL_SEGMENTS="0", **{name: "1"})
         expect_in(ran.err, text)
 
