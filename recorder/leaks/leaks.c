@@ -94,8 +94,11 @@ static void note(const struct lost *lost)
         arena_find_around(group->block, &block, &start);
         finding_note(&(struct finding){.kind = group->is_indirect ? FINDING_INDIRECT_LEAK : FINDING_LEAK,
                                        .name = family_name((enum family)block.family),
-                                       .call_site = group->call_site, .block = group->block, .block_size = group->size,
-                                       .size = group->bytes, .count = group->count});
+                                       .call_site = group->call_site,
+                                       .block = group->block,
+                                       .block_size = group->size,
+                                       .size = group->bytes,
+                                       .count = group->count});
     }
 }
 

@@ -28,13 +28,18 @@ ZERO_PAGE = 4096
 # The largest request, as AddressSanitizer has it.
 MAX_SIZE = 1 << 40
 HINTS = {MISMATCH: "alloc_dealloc_mismatch", SIZE_MISMATCH: "new_delete_type_mismatch"}
+CONTAINER = "container-overflow"
+CONTAINER_HINT = (
+    "HINT: if you don't care about these errors you may set ASAN_OPTIONS=detect_container_overflow=0.",
+    "If you suspect a false positive see also: "
+    "https://github.com/google/sanitizers/wiki/AddressSanitizerContainerOverflow.")
 # What stands in its legend, and in ours not.
 LEGEND = shadow_rows.LEGEND.replace("06 07\n", "06 07 \n").replace(
     "f9\n", "f9\n  Global init order:       f6\n").replace("bb\n", "bb\n  ASan internal:           fe\n")
 
 # What the recorder says of two alignments, and of another size.
-ALIGNMENTS_SAID = re.compile(r"(?: of (?P<size>\d+) bytes?)? with (?:alignment (?P<said>\d+)|no alignment), and .* with "
-                             r"(?:alignment (?P<made>\d+)|no alignment) ")
+ALIGNMENTS_SAID = re.compile(r"(?: of (?P<size>\d+) bytes?)? with (?:alignment (?P<said>\d+)|no alignment), and .* "
+                             r"with (?:alignment (?P<made>\d+)|no alignment) ")
 
 # Where the modules of a process lay, by their paths.
 Bases = Dict[str, int]
@@ -77,6 +82,8 @@ class AsanText(Text):
         yield from self.frames(finding.stack, bases, own)
         yield from self.where_it_is(finding, bases)
         yield from self.created(finding.threads, bases)
+        if finding.class_name == CONTAINER:
+            yield from CONTAINER_HINT
         yield f"SUMMARY: AddressSanitizer: {finding.class_name} {self.place_of(finding.top)}"
         if finding.rows.shadow and finding.access in ACCESSES and finding.class_name != NEGATIVE_SIZE:
             yield from shadow_rows.lines(finding.rows, asan_address(finding))
@@ -315,12 +322,31 @@ def words_of_call(finding: Finding, address: str, thread: str) -> str:
     if name == NOT_OWNED:
         return f"attempting to call malloc_usable_size() for pointer which is not owned: {address}"
     if name.endswith("-overflow") and finding.by_recorder:
-        return f"{name}: {finding.said} in {finding.call} (thread {thread})"
+        return f"{words_of_overflow(finding)} cannot be represented in type size_t (thread {thread})"
     if name in ALIGNMENTS.values():
-        return f"{name}: {finding.said} (thread {thread})"
+        return f"{words_of_alignment(finding)} (thread {thread})"
     if finding.by_recorder:
         return f"{name}: {finding.said.replace(', ', ',', 1) if name.endswith('-overlap') else finding.said}"
     return f"{name} on address {address} in thread {thread}"
+
+
+def words_of_overflow(finding: Finding) -> str:
+    factors = re.match(r"(\d+) \* (\d+)", finding.said)
+    if factors:
+        return f"{finding.call} parameters overflow: count * size ({factors[1]} * {factors[2]})"
+    return f"{finding.call} parameters overflow: size 0x{finding.size or 0:x} rounded up to system page size 0x1000"
+
+
+def words_of_alignment(finding: Finding) -> str:
+    said = re.match(r"alignment (\d+) of (\d+)", finding.said)
+    alignment, size = (said[1], int(said[2])) if said else ("0", 0)
+    if finding.class_name == ALIGNMENTS["memalign"]:
+        return f"invalid allocation alignment: {alignment}, alignment must be a power of two"
+    multiple = "a multiple of sizeof(void*) == 8"
+    if finding.class_name == ALIGNMENTS["aligned_alloc"]:
+        multiple = f"the requested size 0x{size:x} must be a multiple of alignment"
+    call = "posix_memalign" if "posix" in finding.class_name else "aligned_alloc"
+    return f"invalid alignment requested in {call}: {alignment}, alignment must be a power of two and {multiple}"
 
 
 def sizes_of(finding: Finding) -> Iterator[str]:

@@ -10,10 +10,10 @@ from typing import Iterator, List, Sequence
 from beside import compiler_rt
 from beside.compare import LEFT_OUT, OTHER, SAME, Job, Verdict
 from beside.programs import Kept, folder_for_a_test
+from beside.tables import TEXTS
 from support import Compiler
 from testing.programs import environment
 
-FILE_CHECK = "FileCheck-14"
 # FileCheck, which notes its status and why it is not 0.
 TOOL = """#!/bin/sh
 FileCheck-14 --dump-input=never "$@" > /dev/null 2>> {folder}/why
@@ -66,6 +66,5 @@ def check(compiler: Compiler, source: str) -> List[Verdict]:
 def jobs(_: Kept, compilers: Sequence[Compiler]) -> Iterator[Job]:
     for compiler in compilers:
         if compiler.name == "clang" and compiler.cxx:
-            for source in compiler_rt.sources():
-                run = functools.partial(check, compiler, source)
-                yield Job("text", os.path.relpath(source, compiler_rt.TREE), run)
+            for name in TEXTS:
+                yield Job("text", name, functools.partial(check, compiler, f"{compiler_rt.TREE}/{name}"))
