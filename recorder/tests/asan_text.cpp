@@ -42,8 +42,6 @@ static void global() { read_after(numbers, 11); }
 
 static void copy() {
     kept = block(5);
-    strncat(kept, "0123456789" + zero, 0);
-    kept[0] = 0;
     strcpy(kept, static_cast<const char *>("0123456789") + zero);
 }
 

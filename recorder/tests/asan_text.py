@@ -45,7 +45,8 @@ def normal(text):
         line = re.sub(r"(SUMMARY: AddressSanitizer: [a-zA-Z-]+) .*", r"\1", line)
         if not is_below and not LEFT_OUT.match(line):
             lines.append(line.rstrip())
-    # A second global that is near; and what the second range of a call lies beside.
+    # Another global that is near; and what the second range of a call lies beside.
+    lines = [it for it in lines if " global variable 'zero'" not in it and " global variable 'kept'" not in it]
     others = [at for at, it in enumerate(lines) if it.startswith("0x is located ")][1:]
     for at in others:
         end = next(here for here in range(at, len(lines)) if lines[here].startswith("SUMMARY"))
@@ -63,7 +64,8 @@ def said_at_halt(text):
 
 def built(suite, compiler):
     make = compiler.cpp
-    return [suite.built(make, [SOURCE], f"asan-text-{compiler}-{kind}", "-w", "-O0", "-pthread", *flags, native=native)
+    return [suite.built(make, [SOURCE], f"asan-text-{compiler}-{kind}", "-w", "-O0", "-pthread", "-fsized-deallocation",
+                        *flags, native=native)
             for kind, flags, native in (("real", ["-fsanitize=address"], True), ("ours", [], False))]
 
 

@@ -69,3 +69,19 @@ KNOWN: List[Row] = [
     Row("gcc", "c-c++-common/asan/misalign-*", PIECES),
     Row("gcc", "g++.dg/asan/interception-test-1.C", "what lies below a program's own function is not checked"),
 ]
+
+# Tests of compiler-rt of which each line that they look for is in the text of --log-path. Others look for options of
+# the runtime or classes that are not claimed, or have not been tried.
+TEXTS = (
+    "Linux/abort_on_error.cpp", "Linux/bzero.cpp", "Linux/clone_test.cpp", "Linux/global-overflow-bfd.cpp",
+    "Linux/global-overflow-lld.cpp", "Linux/init_fini_sections.cpp", "Linux/interception_malloc_test.cpp",
+    "Linux/interception_readdir_r_test.cpp", "Linux/malloc-in-qsort.cpp", "Linux/malloc_delete_mismatch.cpp",
+    "Linux/memmem_test.cpp", "Linux/new_delete_mismatch.cpp", "Linux/new_delete_mismatch_global.cpp",
+    "Linux/new_delete_mismatch_stack.cpp", "Linux/overflow-in-qsort.cpp", "Linux/printf-fortify-1.c",
+    "Linux/printf-fortify-2.c", "Linux/printf-fortify-3.c", "Linux/printf-fortify-4.c", "Linux/ptrace.cpp",
+    "PR52382.c", "alloca_big_alignment.cpp", "alloca_constant_size.cpp", "alloca_detect_custom_size_.cpp",
+    "alloca_overflow_partial.cpp", "alloca_overflow_right.cpp", "alloca_underflow_left.cpp",
+    "asan_and_llvm_coverage_test.cpp", "deep_tail_call.cpp", "double-free.cpp", "frexp_interceptor.cpp",
+    "frexpf_interceptor.cpp", "frexpl_interceptor.cpp", "global-overflow.cpp", "global-underflow.cpp",
+    "heap-overflow-large.cpp", "heap-overflow.cpp",
+)
