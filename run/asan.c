@@ -103,7 +103,8 @@ static enum done take_log(struct options *options, const char *path)
 {
     if (*path == 0 || strcmp(path, "stderr") == 0)
         return HARMLESS;
-    return strcmp(path, "stdout") == 0 ? give(options, "log-file", "/dev/stdout") : WITHOUT_EFFECT;
+    bool is_stdout = strcmp(path, "stdout") == 0;
+    return is_stdout ? give(options, "log-file", "/dev/stdout") : give(options, "log-path", path);
 }
 
 static enum done take_for_run(struct options *options, const struct asan_word *word)
@@ -132,7 +133,8 @@ static enum done take_for_run(struct options *options, const struct asan_word *w
 /* The recorder takes it: here it counts what is not to be wondered at. */
 static enum done note_for_processes(struct options *options, const struct asan_word *word)
 {
-    if (!asan_is_yes(word) && !asan_is_no(word))
+    bool has_levels = word->option == ASAN_detect_odr_violation || word->option == ASAN_detect_invalid_pointer_pairs;
+    if (has_levels ? !is_number_to(word, UINT8_MAX) : !asan_is_yes(word) && !asan_is_no(word))
         return WITHOUT_EFFECT;
     if (word->option == ASAN_halt_on_error)
         options->may_halt = asan_is_yes(word);
@@ -221,7 +223,7 @@ const char *asan_hint(const char *name, size_t length)
         {"halt", "ASANCOL_HALT=1 in the environment ends each process at its first bad access"},
         {"halt_on_error", "ASANCOL_HALT=1 in the environment ends each process at its first bad access"},
         {"detect_leaks", "is --leaks=yes meant?"},
-        {"log_path", "is --log-file meant?"},
+        {"log_path", "is --log-path meant?"},
         {"quarantine_size_mb", "is --quarantine meant, in bytes?"},
     };
     static char hint[160]; /* the program ends with it */

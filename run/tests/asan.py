@@ -1,5 +1,6 @@
 """What a user of AddressSanitizer has already: ASAN_OPTIONS, LSAN_OPTIONS, and functions of the program."""
 
+import glob
 import re
 import subprocess
 
@@ -8,7 +9,7 @@ from support import REPORT, SANITIZE, TOP, Suite, expect, expect_ran, leave_out,
 from testing.programs import call, compilers_there
 
 PAST = "heap-buffer-overflow: store of 1 byte"
-NOTE = ("asancol: ASAN_OPTIONS: without effect here: log_path=/tmp/x, strict_string_checks=1; "
+NOTE = ("asancol: ASAN_OPTIONS: without effect here: log_to_syslog=1, strict_string_checks=1; "
         "unknown: halt_on_eror=1, x\n")
 
 
@@ -27,11 +28,15 @@ def check_statuses(suite: Suite, folder: str) -> None:
         ASAN_OPTIONS="quarantine_size_mb=1")
     ran(99, "1024 bytes of freed memory are held back (ASANCOL_QUARANTINE)", option="--full",
         ASAN_OPTIONS="quarantine_size_mb=1", ASANCOL_QUARANTINE="1024")
+    ran(99, PAST, ASAN_OPTIONS=f"log_path={folder}/log:detect_odr_violation=2")
+    (log,) = glob.glob(f"{folder}/log.*")
+    with open(log, encoding="utf-8") as file:
+        expect(": AddressSanitizer: heap-buffer-overflow" in file.read(), True, "the file of the process")
 
 
 def check_named(suite: Suite, folder: str) -> None:
     """What has no effect and could change a result is said once, and the rest with --verbose."""
-    words = "halt_on_eror=1,log_path=/tmp/x symbolize=0:strict_string_checks=1:detect_write_exec=0:x:exitcode=3"
+    words = "halt_on_eror=1,log_to_syslog=1 symbolize=0:strict_string_checks=1:detect_write_exec=0:x:exitcode=3"
     ran = suite.run("--", suite.program, "sound", ASAN_OPTIONS=words, ASANCOL_REPORT=REPORT)
     expect_ran(ran, 0, NOTE, absent=["symbolize"])
     ran = suite.run("-v", "--exitcode=4", "--", "sh", "-c", f"{suite.program} past; {suite.program} past",
