@@ -199,7 +199,7 @@ def check_blocks(suite: Suite, folder: str, program: str) -> None:
         for number, (_, address, _) in enumerate(trace.events, 1):
             fault = side.fault_at(number)
             if fault:
-                expect((fault.variable, fault.name), (NO_VARIABLE, ""), name)
+                expect((fault.variable, fault.name), (NO_VARIABLE, "malloc"), name)
                 found.append((address - fault.block, fault.block_size, lines_of(side, fault)))
         expect(found, wanted, name)
         expect(side.fault_count, len({it.place for it in faults_of(peer)}), f"faults of {name}")
@@ -726,7 +726,7 @@ def check_many(suite: Suite, folder: str, program: str) -> None:
     peer = one(folder, [program, "threads"])
     side = peer.side()
     found = [(fault.block_size, fault.name) for fault in faults_of(peer)]
-    expect((found.count((16, "")), found.count((10, "local"))), (6000, 6000), "faults of two threads")
+    expect((found.count((16, "malloc")), found.count((10, "local"))), (6000, 6000), "faults of two threads")
     expect(side.fault_count <= 8, True, f"a list of {side.fault_count}")
     expect(check(suite, folder, peer)[2].split()[0], "closed", "fate")
     peer = one(folder, [program, "handlers"])

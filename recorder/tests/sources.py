@@ -25,7 +25,8 @@ SAFE = {"__libc_single_threaded", "__libc_stack_end", "environment", "_dl_find_o
 
 # Not in a handler: the start of the process, its threads, its end, and the calls of the program that are wrapped or
 # replaced.
-ELSEWHERE = ("process/settings.o", "process/threads.o", "calls/", "heap/allocation.o", "base/own.o")
+ELSEWHERE = ("process/settings.o", "process/asan_options.o", "process/threads.o", "calls/", "heap/allocation.o",
+             "base/own.o")
 AT_THE_START_OR_END = {
     "interface/odr.o": {"dlsym", "dlerror"},
     "leaks/leaks.o": {"dl_iterate_phdr"},

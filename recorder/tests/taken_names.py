@@ -26,7 +26,10 @@ SHARED = ["aligned_alloc", "dladdr", "getauxval"]
 RECORD = ["__libc_stack_end", "__start_asancol_stubs", "__stop_asancol_stubs"]
 # Where the recorder's own code begins and ends, as the linker says it.
 OWN_CODE = [f"__{end}_asancol_{part}_text" for end in ("start", "stop") for part in ("helper", "own")]
-ARCHIVES: Dict[str, List[str]] = {"record": RECORD + OWN_CODE, "static": STATIC + OWN_CODE, "shared": SHARED}
+# What a program may have: a fuzzer's function, and what a link with -fsanitize=address asks for.
+MAY_BE = ["LLVMFuzzerTestOneInput", "asancol_by_flag"]
+ARCHIVES: Dict[str, List[str]] = {"record": RECORD + OWN_CODE + MAY_BE, "static": STATIC + OWN_CODE + MAY_BE,
+                                  "shared": SHARED}
 
 # The allocator, which has to be whole; and what begins and ends a program.
 NOT_OWN = """

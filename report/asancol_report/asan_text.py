@@ -7,7 +7,7 @@ from typing import Dict, Iterable, Iterator, List, Optional, Tuple
 
 from . import shadow_rows
 from .by_recorder import signed
-from .class_names import ALIGNMENTS, ATTEMPTS, MISMATCH, NEGATIVE_SIZE, NOT_OWNED, SIZE_MISMATCH, TOO_BIG
+from .class_names import ALIGNMENTS, ATTEMPTS, MISMATCH, NEGATIVE_SIZE, SIZE_MISMATCH, SIZES_ASKED, TOO_BIG
 from .crashes import Crash
 from .findings import Block, DYNAMIC, Finding, Frame, GLOBAL, HEAP, place_text, Stack, Threads, UNKNOWN_THREAD
 from .leaks import total
@@ -319,8 +319,8 @@ def words_of_call(finding: Finding, address: str, thread: str) -> str:
     if name == TOO_BIG:
         return (f"requested allocation size 0x{size:x} (0x{size + 0x1000 & ~0xfff:x} after adjustments for alignment, "
                 f"red zones etc.) exceeds maximum supported size of 0x{MAX_SIZE:x} (thread {thread})")
-    if name == NOT_OWNED:
-        return f"attempting to call malloc_usable_size() for pointer which is not owned: {address}"
+    if finding.by_recorder and name[len("bad-"):] in SIZES_ASKED:
+        return f"attempting to call {name[len('bad-'):]}() for pointer which is not owned: {address}"
     if name.endswith("-overflow") and finding.by_recorder:
         return f"{words_of_overflow(finding)} cannot be represented in type size_t (thread {thread})"
     if name in ALIGNMENTS.values():

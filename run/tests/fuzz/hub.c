@@ -71,17 +71,19 @@ static void send_first(int to, unsigned kind, int side)
 }
 
 /* What is printed of a process is text without what controls a terminal, and a word of JSON is one. */
-static void look_at(struct process *process)
+static void look_at(const struct segment *segment)
 {
-    char *text = NULL, *list[WORDS + 1] = {process->name, process->why, process->fate};
-    char *shown = printable(process->name);
+    const struct outcome *outcome = &segment->outcome;
+    const char *name = segment->process->name;
+    char *text = NULL, *list[WORDS + 1] = {(char *)name, (char *)outcome->why, (char *)outcome->fate};
+    char *shown = printable(name);
     size_t length = 0;
     for (const char *at = shown; *at != 0; at += printable_length(at))
         expect(printable_length(at) > 0);
     free(shown);
-    expect(strlen(process->why) < sizeof process->why && strlen(process->fate) < sizeof process->fate);
-    expect(!process->is_complete || process->has_checks);
-    expect(process->is_complete || process->why[0] != 0);
+    expect(strlen(outcome->why) < WHY_ROOM);
+    expect(!outcome_is_complete(outcome) || outcome->has_checks);
+    expect(outcome_is_complete(outcome) || outcome->why[0] != 0);
     FILE *to = open_memstream(&text, &length);
     expect(to != NULL);
     json_list(to, list, SIZE_MAX);
@@ -91,26 +93,26 @@ static void look_at(struct process *process)
     free(text);
 }
 
-static void take(struct process *process, const uint8_t *data, size_t size)
+static void take(struct segment *segment, const uint8_t *data, size_t size)
 {
-    if (process->side_memory >= 0)
-        process->side = side_map(process->side_memory);
-    process_name(process);
-    process->verdicts = memfd_create("verdicts", MFD_CLOEXEC);
-    expect(process->verdicts >= 0 && write(process->verdicts, data, size) == (ssize_t)size);
-    verdict_read(process);
-    look_at(process);
-    verdict_again(process);
-    look_at(process);
+    if (segment->side_memory >= 0)
+        segment->side = side_map(segment->side_memory);
+    segment_name(segment);
+    segment->verdicts = memfd_create("verdicts", MFD_CLOEXEC);
+    expect(segment->verdicts >= 0 && write(segment->verdicts, data, size) == (ssize_t)size);
+    verdict_read(segment, NULL);
+    look_at(segment);
+    verdict_again(segment);
+    look_at(segment);
 }
 
-static void give_back(struct process *process)
+static void give_back(struct segment *segment)
 {
-    side_unmap(process->side);
-    if (process->side_memory >= 0)
-        close(process->side_memory);
-    close(process->verdicts);
-    free(process->name);
+    side_unmap(segment->side);
+    if (segment->side_memory >= 0)
+        close(segment->side_memory);
+    close(segment->verdicts);
+    free(segment->children);
 }
 
 int LLVMFuzzerTestOneInput(const uint8_t *data, size_t size)
@@ -119,15 +121,19 @@ int LLVMFuzzerTestOneInput(const uint8_t *data, size_t size)
     if (size < 2)
         return 0;
     size_t head = size - 2 < HEAD ? size - 2 : HEAD;
-    struct process process = {.cut = data[1] % 3, .verdicts = -1};
+    /* They stay, since the index of processes by their own number has them. */
+    static struct process process;
+    static struct segment segment;
+    process = (struct process){.first = &segment};
+    segment = (struct segment){.process = &process, .cut = data[1] % 3, .verdicts = -1};
     int side = make_side(data + 2, head);
     expect(socketpair(AF_UNIX, SOCK_STREAM | SOCK_CLOEXEC, 0, ends) == 0);
     send_first(ends[0], data[0], side);
     modules_allow(3);
-    process.side_memory = side_receive(ends[1], &process.modules);
-    take(&process, data + 2 + head, size - 2 - head);
-    give_back(&process);
-    modules_let_go(&process.modules);
+    segment.side_memory = side_receive(ends[1], &segment.modules);
+    take(&segment, data + 2 + head, size - 2 - head);
+    give_back(&segment);
+    modules_let_go(&segment.modules);
     close(side);
     close(ends[0]);
     close(ends[1]);
