@@ -108,4 +108,5 @@ const struct recorder_hooks asancol_hooks = {
     .before_init = init_order_before,
     .after_init = init_order_after,
     .pair = pair_look,
+    .has_threads = &threads_started,
 };

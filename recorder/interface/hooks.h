@@ -89,6 +89,7 @@ struct recorder_hooks {
     void (*before_init)(const char *module);
     void (*after_init)(void);
     void (*pair)(uintptr_t one, uintptr_t other, uintptr_t caller);
+    const _Atomic bool *has_threads;
 };
 
 /* What is found of the C library (calls/library.h): there if anything is checked. */

@@ -347,6 +347,7 @@ static AS_TABLE struct start starts[STARTS];
 static _Atomic int starts_used; /* as many at once, at most */
 static pthread_key_t at_end;
 static _Atomic bool has_key;
+_Atomic bool threads_started;
 
 static void end_thread(void *unused)
 {
@@ -447,6 +448,7 @@ static uintptr_t find_real(_Atomic uintptr_t *real, const char *name)
 static struct start *prepare(const pthread_attr_t *attributes, void *argument, uintptr_t caller)
 {
     bool is_idle = atomic_load_explicit(&stream_page.stream.is_idle, memory_order_relaxed);
+    atomic_store_explicit(&threads_started, true, memory_order_relaxed);
     unsigned number = thread_create(is_idle ? 0 : call_site_of(caller));
     struct start *start = atomic_load(&has_key) ? take_start() : NULL;
     if (start == NULL)

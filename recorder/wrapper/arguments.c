@@ -255,6 +255,11 @@ static void take_apart(struct arguments *arguments, const char *rest)
     arguments->request->makes_other = true;
 }
 
+static void take_optimization(struct arguments *arguments, const char *level)
+{
+    arguments->request->is_optimized = strcmp(level, "0") != 0;
+}
+
 static void take_object(struct arguments *arguments, const char *rest)
 {
     (void)rest;
@@ -286,7 +291,7 @@ static const struct option {
 } options[] = {
 #define SETS(field, word) {word, ALONE, NULL, offsetof(struct request, field)}
     SETS(is_shown, "-E"), SETS(is_shown, "--preprocess"), SETS(is_shown, "-M"), SETS(is_shown, "-MM"),
-    SETS(is_dry, "-###"),
+    SETS(is_dry, "-###"), SETS(is_verbose, "-v"),
     SETS(link.is_shared, "-shared"), SETS(link.is_shared, "--shared"), SETS(link.is_partial, "-r"),
     SETS(link.is_partial, "-no-link"), SETS(link.is_static, "-static"), SETS(link.is_static, "-static-pie"),
     SETS(link.is_static, "--static"), SETS(link.is_bare, "-nostdlib"), SETS(link.is_bare, "-nodefaultlibs"),
@@ -306,6 +311,7 @@ static const struct option {
     TAKES("-emit-llvm", ALONE, take_apart), TAKES("-save-temps", JOINED, take_apart),
     TAKES("--save-temps", JOINED, take_apart), TAKES("-working-directory", EITHER, take_apart),
     TAKES("-fPIC", ALONE, take_apart), TAKES("-fpic", ALONE, take_apart),
+    TAKES("-O", JOINED, take_optimization),
     TAKES("-x", EITHER, take_language), TAKES("-o", EITHER, take_output), TAKES("--output", APART, take_output),
     TAKES("--output=", JOINED, take_output), TAKES("-l", EITHER, take_library), TAKES("-L", EITHER, take_folder),
     TAKES("-Wl,", JOINED, take_linker_words), TAKES("-Xlinker", APART, take_linker_word),

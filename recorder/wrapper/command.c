@@ -13,7 +13,7 @@
 
 struct own_options own_options_take(char **argv, const struct called *called)
 {
-    static const char all[] = "--asancol-all", compiler[] = "--asancol-compiler=";
+    static const char all[] = "--asancol-all", compiler[] = "--asancol-compiler=", no_loops[] = "--asancol-no-loops";
     const char *setting = getenv("ASANCOL_ALL");
     struct own_options own = {called->compiler, setting != NULL && strcmp(setting, "1") == 0};
     if (own.compiler == NULL)
@@ -22,6 +22,8 @@ struct own_options own_options_take(char **argv, const struct called *called)
     for (char **word = argv + 1; *word != NULL; word++) {
         if (strcmp(*word, all) == 0)
             own.is_all = true;
+        else if (strcmp(*word, no_loops) == 0)
+            own.is_without_loops = true;
         else if (begins_with(*word, compiler))
             own.compiler = *word + strlen(compiler);
         else

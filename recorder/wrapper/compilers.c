@@ -8,6 +8,7 @@
 #include <unistd.h>
 
 #include "common/array.h"
+#include "loops/plugin.h"
 #include "plugin/plugin.h"
 #include "wrapper/linked.h"
 #include "wrapper/view.h"
@@ -70,8 +71,8 @@ static const struct compiler compilers[] = {
         .without_plugin = GCC_CALLS,
     },
     {
-        .says = "clang version",
-        .has_text = "libclang-cpp.so", /* of which it is made */
+        .says = "clang version ", /* likewise */
+        .has_text = "libclang-cpp.so.", /* of which it is made: its version follows */
         .flags = CLANG_CHECKS("1000000000", "1"),
         .all_flags = CLANG_CHECKS("0", "0"),
         .use_after_return = {CLANG_USE_AFTER_RETURN("never"), CLANG_USE_AFTER_RETURN("runtime"),
@@ -82,6 +83,7 @@ static const struct compiler compilers[] = {
         .has_driver = true,
         .header = "cold_reports.h",
         .intrinsics = "clang_intrinsics.h",
+        .loops = LOOPS_FILE,
     },
 };
 

@@ -26,6 +26,7 @@ struct compiler {
     const char *intrinsics; /* and one in any case, which makes accesses of what its checks do not know; or null */
     const char *own_number; /* before a number that makes the noted switches of each object its own, or null */
     const char *plugin;     /* a file of the recorder's that may be there, and adds checks (plugin.c); or null */
+    const char *loops;      /* one that may be there, and tests loops as a whole (loops.c); or null */
     struct flags without_plugin; /* what C and C++ are compiled with if it is not */
     bool has_driver;        /* a program that runs it, and hands it arguments after -Xclang without a look at them */
     enum check_compiler checks_of; /* which arguments take some of its checks away */

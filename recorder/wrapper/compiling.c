@@ -10,6 +10,7 @@
 #include "common/must.h"
 #include "common/text.h"
 #include "wrapper/arguments.h"
+#include "wrapper/loops.h"
 #include "wrapper/plugin.h"
 #include "wrapper/say.h"
 #include "wrapper/self.h"
@@ -62,6 +63,17 @@ static void add_plugin(struct strings *line, const struct job *job)
     strings_add(line, word);
 }
 
+static void add_loops(struct strings *line, const struct job *job)
+{
+    const char *path = job->request.inputs.has_compiled ? loops_of(job) : NULL;
+    char *word;
+    if (path == NULL)
+        return;
+    if (asprintf(&word, "-fpass-plugin=%s", path) < 0)
+        no_memory();
+    strings_add(line, word);
+}
+
 /* GCC compiles at the link what was made with -flto. */
 static bool compiles_at_link(const struct job *job)
 {
@@ -84,6 +96,7 @@ static void add_checks(struct strings *line, const struct job *job)
     strings_add_all(line, returns->items, returns->count);
     add_own_number(line, job);
     add_plugin(line, job);
+    add_loops(line, job);
     for (size_t i = 0; compiler->has_driver && i < job->request.kept.count; i++) {
         strings_add(line, "-Xclang");
         strings_add(line, job->request.kept.names[i]);

@@ -48,6 +48,9 @@ struct request {
     bool makes_other;    /* than an object of the machine where it was asked for; or it may be linked without us */
     bool is_shown;       /* what is preprocessed is printed, and not compiled */
     bool is_dry;         /* what would be run is printed, and not run */
+    bool is_optimized;   /* by its last word of that kind */
+    bool is_verbose;     /* the compiler says what it does, by -v */
+    bool tests_loops;    /* as a whole, where the compiler has a plugin for it */
     bool is_all;         /* each access is a call, and not only one that its check finds bad */
     bool is_libcxx;      /* the library of C++ is that of LLVM */
     bool is_without_cxx; /* it is not looked for at its place: the caller says where it is */

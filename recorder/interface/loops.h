@@ -1,0 +1,17 @@
+/* What the copies of loops without checks (loops/versions.cpp) ask for. */
+#ifndef ASANCOL_INTERFACE_LOOPS_H
+#define ASANCOL_INTERFACE_LOOPS_H
+
+#include <stdint.h>
+
+#define GOOD_ROUNDS_NAME "__asan_good_rounds"
+
+/* How many instructions a loop may run by one look at the shadow, in which it does not see that a signal handler, or
+   another thread, has freed what it accesses: some microseconds. */
+#define STRIP_ALONE (UINT64_C(1) << 16)
+/* Once there was a second thread. */
+#define STRIP_BESIDE_OTHERS (UINT64_C(1) << 12)
+/* An innermost loop is left only after a multiple of so many rounds. */
+#define STRIP_UNIT UINT64_C(64)
+
+#endif

@@ -1,0 +1,213 @@
+#include "loops/accesses.hpp"
+
+#include <llvm/Analysis/ScalarEvolutionExpressions.h>
+#include <llvm/Config/llvm-config.h>
+#include <llvm/IR/DataLayout.h>
+#include <llvm/IR/IntrinsicInst.h>
+#include <llvm/IR/Module.h>
+#include <llvm/Transforms/Utils/ScalarEvolutionExpander.h>
+
+using namespace llvm;
+
+namespace {
+
+/* At least so many rounds, if their number is constant: a test is a call. */
+const unsigned LEAST_ROUNDS = 32;
+/* One more is a call more. */
+const unsigned MOST_RANGES = 6;
+/* Accesses so near to each other are tested as one. */
+const uint64_t NEAR = 512;
+/* For each access of a round a test may read the shadow of so many bytes. */
+const uint64_t BYTES_OF_ACCESS = 64;
+/* What is copied in a round, at most, so that a round takes no time that counts. */
+const uint64_t MOST_COPIED = 256;
+/* A larger loop takes more time than its checks. */
+const unsigned MOST_INSTRUCTIONS = 1000;
+
+/* A load or a store that AddressSanitizer's pass gives a check. */
+bool has_check(Instruction &instruction)
+{
+    const Value *pointer = getLoadStorePointerOperand(&instruction);
+    return pointer != nullptr && pointer->getType()->getPointerAddressSpace() == 0 && !pointer->isSwiftError()
+           && !instruction.hasMetadata("nosanitize") && !isa<ScalableVectorType>(getLoadStoreType(&instruction));
+}
+
+/* Whether a call changes no shadow, waits for nobody, and takes next to no time. What copies memory has a check of its
+   own, in each copy of the loop. */
+bool is_harmless_call(const CallBase &call)
+{
+    const auto *intrinsic = dyn_cast<IntrinsicInst>(&call);
+    if (intrinsic == nullptr || call.isConvergent() || call.cannotDuplicate())
+        return false;
+    if (isa<DbgInfoIntrinsic>(intrinsic) || intrinsic->getIntrinsicID() == Intrinsic::assume
+        || intrinsic->getIntrinsicID() == Intrinsic::experimental_noalias_scope_decl)
+        return true;
+    if (const auto *copied = dyn_cast<MemIntrinsic>(intrinsic)) {
+        const auto *length = dyn_cast<ConstantInt>(copied->getLength());
+        return !copied->isVolatile() && length != nullptr && length->getValue().ule(MOST_COPIED);
+    }
+    return call.doesNotAccessMemory();
+}
+
+/* Whether nothing in it can change the shadow, or wait for another thread that does. */
+bool is_harmless(const Instruction &instruction)
+{
+    if (const auto *call = dyn_cast<CallBase>(&instruction))
+        return is_harmless_call(*call);
+    if (instruction.isAtomic() || instruction.isVolatile() || isa<AllocaInst>(instruction) || instruction.isEHPad())
+        return false;
+    return !instruction.isTerminator() || isa<BranchInst>(instruction) || isa<SwitchInst>(instruction);
+}
+
+/* How many instructions the blocks of a loop itself have; or 0 if one of them is not harmless. */
+unsigned count_harmless(const Loop *loop, const LoopInfo &loops)
+{
+    unsigned count = 0;
+    for (const BasicBlock *block : loop->blocks()) {
+        if (loops.getLoopFor(block) != loop)
+            continue;
+        for (const Instruction &instruction : *block) {
+            if (!is_harmless(instruction))
+                return 0;
+            count += !instruction.isDebugOrPseudoInst() && !isa<PHINode>(instruction);
+        }
+    }
+    return count;
+}
+
+bool has_one_exit(const Loop *loop)
+{
+    return loop->getLoopLatch() != nullptr && loop->getExitingBlock() == loop->getLoopLatch()
+           && isa<BranchInst>(loop->getLoopLatch()->getTerminator());
+}
+
+bool is_same(const range &one, const range &other)
+{
+    return one.step == other.step && one.inner == other.inner && one.inner_step == other.inner_step;
+}
+}
+
+/* Whether it can be computed before the loop. */
+bool access_reader::is_known(const SCEV *value, Loop *loop) const
+{
+    const Instruction *before = loop->getLoopPreheader()->getTerminator();
+    if (!evolution.isLoopInvariant(value, loop))
+        return false;
+#if LLVM_VERSION_MAJOR < 15
+    return isSafeToExpandAt(value, before, evolution);
+#else
+    return SCEVExpander(evolution, function.getParent()->getDataLayout(), "asancol").isSafeToExpandAt(value, before);
+#endif
+}
+
+/* The number of its last round, of 64 bits; or null if that is not known before the other loop. */
+const SCEV *access_reader::last_round(Loop *loop, Loop *known_before) const
+{
+    const SCEV *last = has_one_exit(loop) ? evolution.getExitCount(loop, loop->getLoopLatch()) : nullptr;
+    if (last == nullptr || isa<SCEVCouldNotCompute>(last) || evolution.getTypeSizeInBits(last->getType()) > 64
+        || !is_known(last, known_before))
+        return nullptr;
+    return evolution.getNoopOrZeroExtend(last, Type::getInt64Ty(function.getContext()));
+}
+
+bool access_reader::read_inner(tested_loop &it) const
+{
+    for (Loop *inner : *it.loop) {
+        const SCEV *last = inner->isInnermost() ? last_round(inner, it.loop) : nullptr;
+        unsigned instructions = count_harmless(inner, loops);
+        if (last == nullptr || instructions == 0 || instructions > MOST_INSTRUCTIONS)
+            return false;
+        it.inner.push_back({inner, last, instructions});
+    }
+    return true;
+}
+
+/* Where the bytes of an access are: a place, and how it goes on with the rounds of the loop, and of an inner one. */
+bool access_reader::place(Instruction *access, tested_loop &it, range &found) const
+{
+    Type *word = Type::getInt64Ty(function.getContext());
+    const SCEV *at = evolution.getSCEV(getLoadStorePointerOperand(access));
+    const Loop *own = loops.getLoopFor(access->getParent());
+    found = {nullptr, evolution.getZero(word), nullptr, nullptr, 0, 0, {access}};
+    for (const inner_loop &inner : it.inner)
+        if (inner.loop == own && !evolution.isLoopInvariant(at, own))
+            found.inner = &inner;
+    if (found.inner != nullptr) {
+        const auto *moved = dyn_cast<SCEVAddRecExpr>(at);
+        if (moved == nullptr || !moved->isAffine() || moved->getLoop() != own)
+            return false;
+        found.inner_step = evolution.getNoopOrSignExtend(moved->getStepRecurrence(evolution), word);
+        at = moved->getStart();
+        if (!is_known(found.inner_step, it.loop))
+            return false;
+    }
+    if (const auto *moved = dyn_cast<SCEVAddRecExpr>(at)) {
+        if (moved->getLoop() == it.loop) {
+            if (!moved->isAffine())
+                return false;
+            found.step = evolution.getNoopOrSignExtend(moved->getStepRecurrence(evolution), word);
+            at = moved->getStart();
+        }
+    }
+    found.start = at;
+    const DataLayout &layout = function.getParent()->getDataLayout();
+    found.high = static_cast<int64_t>(layout.getTypeStoreSize(getLoadStoreType(access)).getFixedValue());
+    return at->getType()->isPointerTy() && is_known(at, it.loop) && is_known(found.step, it.loop);
+}
+
+/* To a range that moves likewise and begins near, if there is one. */
+void access_reader::add(tested_loop &it, range &found) const
+{
+    for (range &other : it.ranges) {
+        if (!is_same(other, found))
+            continue;
+        const auto *distance = dyn_cast<SCEVConstant>(evolution.getMinusSCEV(found.start, other.start));
+        if (distance == nullptr || distance->getAPInt().abs().ugt(NEAR))
+            continue;
+        int64_t way = distance->getAPInt().getSExtValue();
+        other.low = std::min(other.low, way);
+        other.high = std::max(other.high, way + found.high);
+        other.accesses.append(found.accesses);
+        return;
+    }
+    it.ranges.push_back(found);
+}
+
+/* Of a nest all accesses have to be known, since its rounds are many; of another loop half of them. */
+bool access_reader::read_accesses(tested_loop &it) const
+{
+    unsigned all = 0, known = 0;
+    for (BasicBlock *block : it.loop->blocks()) {
+        for (Instruction &instruction : *block) {
+            range found;
+            if (!has_check(instruction))
+                continue;
+            all++;
+            if (!place(&instruction, it, found))
+                continue;
+            known++;
+            add(it, found);
+        }
+    }
+    return known != 0 && (it.inner.empty() ? 2 * known >= all : known == all) && it.ranges.size() <= MOST_RANGES;
+}
+
+bool access_reader::read(Loop *loop, tested_loop &it)
+{
+    it.loop = loop;
+    if (!loop->isLoopSimplifyForm() || !loop->isLCSSAForm(tree) || !loop->isSafeToClone() || !has_one_exit(loop))
+        return false;
+    it.instructions = count_harmless(loop, loops);
+    it.last = last_round(loop, loop);
+    if (it.last == nullptr || it.instructions == 0 || it.instructions > MOST_INSTRUCTIONS || !read_inner(it)
+        || !read_accesses(it))
+        return false;
+    if (!it.inner.empty())
+        return true;
+    for (const range &each : it.ranges)
+        if (const auto *step = dyn_cast<SCEVConstant>(each.step))
+            if (step->getAPInt().abs().ugt(BYTES_OF_ACCESS * each.accesses.size()))
+                return false;
+    const auto *last = dyn_cast<SCEVConstant>(it.last);
+    return last == nullptr || last->getAPInt().uge(LEAST_ROUNDS - 1);
+}

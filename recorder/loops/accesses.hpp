@@ -1,0 +1,61 @@
+/* What a loop accesses, so far as it is known before its first round. */
+#ifndef ASANCOL_LOOPS_ACCESSES_HPP
+#define ASANCOL_LOOPS_ACCESSES_HPP
+
+#include <llvm/ADT/SmallVector.h>
+#include <llvm/Analysis/LoopInfo.h>
+#include <llvm/Analysis/ScalarEvolution.h>
+#include <llvm/IR/Dominators.h>
+#include <llvm/IR/Instructions.h>
+
+/* A loop within the one that is looked at: it runs `last` + 1 rounds in each round of that. */
+struct inner_loop {
+    llvm::Loop *loop;
+    const llvm::SCEV *last;
+    unsigned instructions;
+};
+
+/* The bytes from `low` up to `high`, from a place that goes on by `step` with each round. An inner loop moves it
+   besides, by `inner_step` from each of its rounds to the next. */
+struct range {
+    const llvm::SCEV *start, *step, *inner_step;
+    const inner_loop *inner; /* or null */
+    int64_t low, high;
+    llvm::SmallVector<llvm::Instruction *, 4> accesses;
+};
+
+/* A loop that can be tested as a whole: all that its test needs. */
+struct tested_loop {
+    llvm::Loop *loop;
+    const llvm::SCEV *last; /* of its rounds, from 0 on */
+    llvm::SmallVector<inner_loop, 4> inner;
+    llvm::SmallVector<range, 8> ranges;
+    unsigned instructions; /* of a round, without inner loops */
+};
+
+class access_reader {
+public:
+    access_reader(llvm::Function &function, llvm::LoopInfo &loops, llvm::DominatorTree &tree,
+                  llvm::ScalarEvolution &evolution)
+        : function(function), loops(loops), tree(tree), evolution(evolution)
+    {
+    }
+
+    /* Whether it can be tested, and is worth it. It is an innermost loop, or has only such in it. */
+    bool read(llvm::Loop *loop, tested_loop &it);
+
+private:
+    llvm::Function &function;
+    llvm::LoopInfo &loops;
+    llvm::DominatorTree &tree;
+    llvm::ScalarEvolution &evolution;
+
+    bool is_known(const llvm::SCEV *value, llvm::Loop *loop) const;
+    const llvm::SCEV *last_round(llvm::Loop *loop, llvm::Loop *known_before) const;
+    bool read_inner(tested_loop &it) const;
+    bool place(llvm::Instruction *access, tested_loop &it, range &found) const;
+    void add(tested_loop &it, range &found) const;
+    bool read_accesses(tested_loop &it) const;
+};
+
+#endif
