@@ -19,22 +19,41 @@ static inline uint64_t strip(void)
     return is_alone ? STRIP_ALONE : STRIP_BESIDE_OTHERS;
 }
 
-/* How many of the next rounds of a loop need no check of an access: all, or a multiple of `unit`, or none. The access
-   is to `bytes` bytes from `start` on, which moves by `step` from each round to the next. A round runs so many
-   instructions. It reads the shadow without a word to other threads, as an inline check does. */
+/* As many rounds as one look at the shadow is for: all, or a multiple of `unit`. */
+static inline uint64_t cut(uint64_t rounds, uint64_t instructions, uint64_t unit)
+{
+    const uint64_t most = strip();
+    uint64_t all;
+    if (!__builtin_mul_overflow(rounds, instructions, &all) && all <= most)
+        return rounds;
+    return most / instructions & ~(unit - 1);
+}
+
+/* Whether the accesses of so many rounds are good: to `bytes` bytes from `start` on, which moves by `step` from each
+   round to the next. It reads the shadow without a word to other threads, as an inline check does. */
+static inline bool are_good(uint64_t rounds, uintptr_t start, int64_t step, uint64_t bytes, uint64_t instructions)
+{
+    const int64_t most_step = INT64_C(1) << 30;
+    const uint64_t most_rounds = UINT64_C(1) << 31, most_work = UINT64_C(1) << 24;
+    if (rounds == 0 || rounds > most_rounds || step < -most_step || step > most_step || instructions > most_work)
+        return false;
+    int64_t way = step * (int64_t)(rounds - 1);
+    uint64_t length = (uint64_t)(way < 0 ? -way : way), most = most_bytes(rounds * instructions);
+    return bytes <= most && length <= most - bytes && shadow_is_clean(way < 0 ? start - length : start, length + bytes);
+}
+
+/* Whether all rounds of a loop need no check of an access: then how many of them one look at the shadow is for, and
+   else 0. A round runs so many instructions. */
+CALLBACK uint64_t __asan_good_loop(uint64_t rounds, uintptr_t start, int64_t step, uint64_t bytes,
+                                   uint64_t instructions, uint64_t unit)
+{
+    return are_good(rounds, start, step, bytes, instructions) ? cut(rounds, instructions, unit) : 0;
+}
+
+/* How many of the next rounds need none. */
 CALLBACK uint64_t __asan_good_rounds(uint64_t rounds, uintptr_t start, int64_t step, uint64_t bytes,
                                      uint64_t instructions, uint64_t unit)
 {
-    const int64_t most_step = INT64_C(1) << 32;
-    const uint64_t most = strip();
-    uint64_t all;
-    if (__builtin_mul_overflow(rounds, instructions, &all) || all > most) {
-        rounds = most / instructions & ~(unit - 1);
-        all = rounds * instructions;
-    }
-    if (rounds == 0 || step < -most_step || step > most_step || bytes > most_bytes(all))
-        return 0;
-    int64_t way = step * (int64_t)(rounds - 1);
-    uint64_t first = way < 0 ? start + (uint64_t)way : start, size = bytes + (uint64_t)(way < 0 ? -way : way);
-    return size <= most_bytes(all) && shadow_is_clean(first, size) ? rounds : 0;
+    rounds = cut(rounds, instructions, unit);
+    return are_good(rounds, start, step, bytes, instructions) ? rounds : 0;
 }

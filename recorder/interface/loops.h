@@ -4,6 +4,7 @@
 
 #include <stdint.h>
 
+#define GOOD_LOOP_NAME "__asan_good_loop"
 #define GOOD_ROUNDS_NAME "__asan_good_rounds"
 
 /* How many instructions a loop may run by one look at the shadow, in which it does not see that a signal handler, or
@@ -11,7 +12,7 @@
 #define STRIP_ALONE (UINT64_C(1) << 16)
 /* Once there was a second thread. */
 #define STRIP_BESIDE_OTHERS (UINT64_C(1) << 12)
-/* An innermost loop is left only after a multiple of so many rounds. */
+/* A strip of an innermost loop is a multiple of so many rounds, but for the last one: vectors fit into it. */
 #define STRIP_UNIT UINT64_C(64)
 
 #endif

@@ -75,6 +75,16 @@ unsigned count_harmless(const Loop *loop, const LoopInfo &loops)
     return count;
 }
 
+/* Whether it takes a division by no power of two: its loop would be unrolled otherwise beside a copy that has it. */
+bool is_dear(const SCEV *number)
+{
+    return SCEVExprContains(number, [](const SCEV *part) {
+        const auto *division = dyn_cast<SCEVUDivExpr>(part);
+        const auto *by = division != nullptr ? dyn_cast<SCEVConstant>(division->getRHS()) : nullptr;
+        return division != nullptr && (by == nullptr || !by->getAPInt().isPowerOf2());
+    });
+}
+
 bool has_one_exit(const Loop *loop)
 {
     return loop->getLoopLatch() != nullptr && loop->getExitingBlock() == loop->getLoopLatch()
@@ -104,7 +114,7 @@ bool access_reader::is_known(const SCEV *value, Loop *loop) const
 const SCEV *access_reader::last_round(Loop *loop, Loop *known_before) const
 {
     const SCEV *last = has_one_exit(loop) ? evolution.getExitCount(loop, loop->getLoopLatch()) : nullptr;
-    if (last == nullptr || isa<SCEVCouldNotCompute>(last) || evolution.getTypeSizeInBits(last->getType()) > 64
+    if (last == nullptr || isa<SCEVCouldNotCompute>(last) || is_dear(last) || evolution.getTypeSizeInBits(last->getType()) > 64
         || !is_known(last, known_before))
         return nullptr;
     return evolution.getNoopOrZeroExtend(last, Type::getInt64Ty(function.getContext()));

@@ -1,15 +1,16 @@
 /* Of
        before -> loop -> exit
    is made
-       before -> strip                     if there are enough rounds, else checked
-       strip -> good                       if the test says how many rounds are good, else checked
-       good -> fast loop -> done           so many rounds of it
-       done -> strip                       if rounds are left, else exit
-       checked -> loop -> left -> exit     the rest, or all
-   The fast loop is the copy. Its variables come from `strip`, which has them from `before` and, for what follows from the
-   number of rounds, from that, and else from `done`. The number of rounds done is a multiple of UNIT, and is seen to be:
-   so the loop that has checks is vectorized and aligned as it would be alone. If the number of rounds is a small
-   constant there is one strip, and no way back to it: a test for less than all rounds is one that has failed. */
+       before -> first                   if there are enough rounds, else checked
+       first -> strip                    if the test finds all of the loop good, else checked
+       strip -> good -> fast loop -> done    as many rounds as are good by the last test
+       done -> again                     if rounds are left, else exit
+       again -> strip                    if the test finds the next strip good, else rest
+       checked -> loop -> left -> exit
+       rest -> loop -> left of rest -> exit
+   Both the fast loop and the rest are copies. The loop itself begins as it did, and is compiled as it would be alone, so
+   that its reports are the same. The rest is only for what another thread, or a signal handler, makes bad meanwhile. If
+   the number of rounds is a small constant there is one strip: then `first` leads to `good`, and `done` to the exit. */
 #include "loops/versions.hpp"
 
 #include <llvm/Analysis/ScalarEvolutionExpressions.h>
@@ -19,6 +20,7 @@
 #include <llvm/Transforms/Utils/BasicBlockUtils.h>
 #include <llvm/Transforms/Utils/Cloning.h>
 #include <llvm/Transforms/Utils/Local.h>
+#include <llvm/Transforms/Utils/LoopUtils.h>
 #include <llvm/Transforms/Utils/ScalarEvolutionExpander.h>
 
 #include "interface/loops.h"
@@ -57,17 +59,19 @@ private:
     LLVMContext &context;
     Type *word, *byte;
     SCEVExpander expander;
-    ValueToValueMapTy copies;
-    Loop *fast = nullptr;
+    /* The copies of the loop, and what they have for each value of it. */
+    ValueToValueMapTy copies, copies_of_rest;
+    Loop *fast = nullptr, *rest_loop = nullptr;
     bool has_one_strip = false;
-    BasicBlock *before = nullptr, *checked = nullptr, *strip = nullptr, *good = nullptr, *done = nullptr,
-               *left = nullptr, *exit = nullptr;
-    /* In `before`: the number of rounds, what they take, and whether the numbers are small enough to be tested. */
+    BasicBlock *before = nullptr, *checked = nullptr, *first = nullptr, *strip = nullptr, *good = nullptr,
+               *done = nullptr, *again = nullptr, *rest = nullptr, *left = nullptr, *left_of_rest = nullptr,
+               *exit = nullptr;
+    /* In `before`: the number of rounds, what one takes, and whether the numbers are small enough to be tested. */
     Value *all = nullptr, *work = nullptr, *is_fit = nullptr;
     SmallVector<tested_range, 8> ranges;
-    /* In `strip`: how many rounds are done, and how many of the next are good. */
+    /* In `strip`: how many rounds are done, and how many of the next are good. In `done`: how many are then. */
     PHINode *rounds_done = nullptr;
-    Value *rounds_left = nullptr, *rounds_good = nullptr;
+    Value *rounds_good = nullptr, *rounds_next = nullptr;
 
     Value *number(uint64_t value) const { return ConstantInt::get(word, value); }
     DebugLoc place() const;
@@ -78,14 +82,17 @@ private:
     void count_work(IRBuilder<> &builder);
     void add_range(IRBuilder<> &builder, const range &each);
     void compute_before();
+    Loop *copy_loop(ValueToValueMapTy &into, const char *suffix, BasicBlock *end);
     void split();
+    Value *test(IRBuilder<> &builder, const char *name, Value *rounds, Value *from, const tested_range &each);
+    void test_all();
+    void test_strips();
     void end_fast_loop();
-    void test();
-    Value *good_at_end(Value *of_loop);
-    Value *begin_strip(IRBuilder<> &builder, PHINode *variable);
-    void join_variables();
+    Value *at_end(ValueToValueMapTy &of_copies, Loop *copy, Value *value, BasicBlock *end);
+    Value *moved_by(IRBuilder<> &builder, PHINode &variable, Value *rounds);
+    void join_variable(PHINode &variable);
     void join_exit();
-    void leave_before();
+    void note_strips(Loop *parent);
     void note_loops();
 };
 
@@ -168,23 +175,101 @@ void versioning::compute_before()
         add_range(builder, each);
 }
 
-/* Makes the blocks and the copy, which does not lead to the exit any more. */
-void versioning::split()
+/* It leads to a block of its own, and no more to the exit. */
+Loop *versioning::copy_loop(ValueToValueMapTy &into, const char *suffix, BasicBlock *end)
 {
     SmallVector<BasicBlock *, 8> blocks;
-    BasicBlock *latch = it.loop->getLoopLatch();
+    Loop *copy = cloneLoopWithPreheader(checked, before, it.loop, into, suffix, &of.loops, &of.tree, blocks);
+    remapInstructionsInBlocks(blocks, into);
+    copy->getLoopLatch()->getTerminator()->replaceUsesOfWith(exit, end);
+    return copy;
+}
+
+void versioning::split()
+{
     exit = it.loop->getExitBlock();
     checked = SplitBlock(before, before->getTerminator(), &of.tree, &of.loops, nullptr, "asancol.checked");
-    fast = cloneLoopWithPreheader(checked, before, it.loop, copies, ".good", &of.loops, &of.tree, blocks);
-    remapInstructionsInBlocks(blocks, copies);
-    good = fast->getLoopPreheader();
-    good->setName("asancol.good");
-    strip = make_block("asancol.strip", good);
+    first = make_block("asancol.first", checked);
     done = make_block("asancol.done", checked);
     left = make_block("asancol.left", exit);
-    fast->getLoopLatch()->getTerminator()->replaceUsesOfWith(exit, done);
-    latch->getTerminator()->replaceUsesOfWith(exit, left);
     IRBuilder<>(left).CreateBr(exit);
+    fast = copy_loop(copies, ".good", done);
+    good = fast->getLoopPreheader();
+    good->setName("asancol.good");
+    if (!has_one_strip) {
+        strip = make_block("asancol.strip", good);
+        again = make_block("asancol.again", checked);
+        left_of_rest = make_block("asancol.left", exit);
+        IRBuilder<>(left_of_rest).CreateBr(exit);
+        rest_loop = copy_loop(copies_of_rest, ".rest", left_of_rest);
+        rest = rest_loop->getLoopPreheader();
+        rest->setName("asancol.rest");
+    }
+    it.loop->getLoopLatch()->getTerminator()->replaceUsesOfWith(exit, left);
+    Instruction *end = before->getTerminator();
+    IRBuilder<>(end).CreateCondBr(is_fit, first, checked);
+    end->eraseFromParent();
+}
+
+/* The call of a test of the next rounds, where so many are done. */
+Value *versioning::test(IRBuilder<> &builder, const char *name, Value *rounds, Value *from, const tested_range &each)
+{
+    Type *pointer = byte->getPointerTo();
+    FunctionCallee function = of.function.getParent()->getOrInsertFunction(name, word, word, pointer, word, word, word,
+                                                                           word);
+    if (auto *declared = dyn_cast<Function>(function.getCallee())) {
+        declared->setDoesNotThrow();
+        declared->setOnlyAccessesInaccessibleMemory();
+        declared->addFnAttr(Attribute::WillReturn);
+        declared->addParamAttr(1, Attribute::NoCapture);
+    }
+    Value *start = from == nullptr ? each.start : builder.CreateGEP(byte, each.start, builder.CreateMul(from, each.step));
+    uint64_t unit = it.inner.empty() ? STRIP_UNIT : 1;
+    return builder.CreateCall(function, {rounds, start, each.step, each.bytes, work, number(unit)});
+}
+
+/* All of the loop, of which the last answer says how many rounds are the first strip. */
+void versioning::test_all()
+{
+    IRBuilder<> builder(first);
+    builder.SetCurrentDebugLocation(place());
+    Value *none = number(0), *rounds = all;
+    for (const tested_range &each : ranges) {
+        if (rounds != all)
+            rounds = builder.CreateSelect(builder.CreateICmpEQ(rounds, none), none, all);
+        rounds = test(builder, GOOD_LOOP_NAME, rounds, nullptr, each);
+    }
+    rounds_good = rounds;
+    Value *is_good = has_one_strip ? builder.CreateICmpEQ(rounds, all) : builder.CreateICmpNE(rounds, none);
+    builder.CreateCondBr(is_good, has_one_strip ? good : strip, checked, MDBuilder(context).createBranchWeights(1000, 1));
+}
+
+/* Strips, and the tests of all but the first. */
+void versioning::test_strips()
+{
+    IRBuilder<> builder(strip);
+    builder.SetCurrentDebugLocation(place());
+    rounds_done = builder.CreatePHI(word, 2, "asancol.rounds");
+    PHINode *answer = builder.CreatePHI(word, 2, "asancol.answer");
+    Value *rounds_left = builder.CreateSub(all, rounds_done);
+    answer->addIncoming(rounds_good, first);
+    rounds_good = answer;
+    builder.CreateBr(good);
+
+    builder.SetInsertPoint(done);
+    Value *counted = it.inner.empty() ? builder.CreateAnd(answer, number(~(STRIP_UNIT - 1))) : answer;
+    rounds_next = builder.CreateAdd(rounds_done, counted);
+    builder.CreateCondBr(builder.CreateICmpEQ(answer, rounds_left), exit, again);
+
+    builder.SetInsertPoint(again);
+    Value *rounds = builder.CreateSub(all, rounds_next);
+    for (const tested_range &each : ranges)
+        rounds = test(builder, GOOD_ROUNDS_NAME, rounds, rounds_next, each);
+    builder.CreateCondBr(builder.CreateICmpNE(rounds, number(0)), strip, rest,
+                         MDBuilder(context).createBranchWeights(1000, 1));
+    answer->addIncoming(rounds, again);
+    rounds_done->addIncoming(number(0), first);
+    rounds_done->addIncoming(rounds_next, again);
 }
 
 /* It runs as many rounds as are good. */
@@ -203,92 +288,65 @@ void versioning::end_fast_loop()
     RecursivelyDeleteTriviallyDeadInstructions(old);
 }
 
-/* The test, and the ways from there. */
-void versioning::test()
+/* What a value of the loop is after a copy of it, in the block to which that leads. */
+Value *versioning::at_end(ValueToValueMapTy &of_copies, Loop *copy, Value *value, BasicBlock *end)
 {
-    IRBuilder<> builder(strip);
-    builder.SetCurrentDebugLocation(place());
-    Type *pointer = byte->getPointerTo();
-    FunctionCallee function = of.function.getParent()->getOrInsertFunction(GOOD_ROUNDS_NAME, word, word, pointer, word,
-                                                                           word, word, word);
-    if (auto *declared = dyn_cast<Function>(function.getCallee())) {
-        declared->setDoesNotThrow();
-        declared->setOnlyAccessesInaccessibleMemory();
-        declared->addFnAttr(Attribute::WillReturn);
-        declared->addParamAttr(1, Attribute::NoCapture);
-    }
-    if (!has_one_strip)
-        rounds_done = builder.CreatePHI(word, 2, "asancol.rounds");
-    rounds_left = has_one_strip ? all : builder.CreateSub(all, rounds_done);
-    rounds_good = rounds_left;
-    for (const tested_range &each : ranges) {
-        Value *start = each.start;
-        if (!has_one_strip)
-            start = builder.CreateGEP(byte, start, builder.CreateMul(rounds_done, each.step));
-        uint64_t unit = it.inner.empty() ? STRIP_UNIT : 1;
-        rounds_good = builder.CreateCall(function, {rounds_good, start, each.step, each.bytes, work, number(unit)});
-    }
-    Value *is_good = has_one_strip ? builder.CreateICmpEQ(rounds_good, all)
-                                   : builder.CreateICmpNE(rounds_good, number(0));
-    builder.CreateCondBr(is_good, good, checked, MDBuilder(context).createBranchWeights(1000, 1));
+    auto found = of_copies.find(value);
+    Value *copied = found == of_copies.end() ? value : static_cast<Value *>(found->second);
+    auto *made = dyn_cast<Instruction>(copied);
+    if (made == nullptr || !copy->contains(made))
+        return copied;
+    PHINode *kept = end->empty() ? PHINode::Create(copied->getType(), 1, "", end)
+                                 : PHINode::Create(copied->getType(), 1, "", &end->front());
+    kept->addIncoming(copied, copy->getLoopLatch());
+    return kept;
 }
 
-/* What a value of the loop is after the copy: `done` has only such so far. */
-Value *versioning::good_at_end(Value *of_loop)
+/* What a variable is after so many rounds, if that follows from their number; or null. */
+Value *versioning::moved_by(IRBuilder<> &builder, PHINode &variable, Value *rounds)
 {
-    auto found = copies.find(of_loop);
-    Value *copy = found == copies.end() ? of_loop : static_cast<Value *>(found->second);
-    auto *made = dyn_cast<Instruction>(copy);
-    if (made == nullptr || !fast->contains(made))
-        return copy;
-    PHINode *end = PHINode::Create(copy->getType(), 1, "", done);
-    end->addIncoming(copy, fast->getLoopLatch());
-    return end;
+    Type *type = variable.getType();
+    if (!type->isPointerTy() && !type->isIntegerTy())
+        return nullptr;
+    const auto *moved = dyn_cast<SCEVAddRecExpr>(of.evolution.getSCEV(&variable));
+    if (moved == nullptr || moved->getLoop() != it.loop || !moved->isAffine())
+        return nullptr;
+    const auto *step = dyn_cast<SCEVConstant>(moved->getStepRecurrence(of.evolution));
+    if (step == nullptr)
+        return nullptr;
+    Value *begin = variable.getIncomingValueForBlock(checked);
+    Value *way = builder.CreateMul(builder.CreateZExtOrTrunc(rounds, step->getType()), step->getValue());
+    if (type->isIntegerTy())
+        return builder.CreateAdd(begin, way);
+    Value *place = builder.CreateGEP(byte, builder.CreateBitCast(begin, byte->getPointerTo()), way);
+    return builder.CreateBitCast(place, type);
 }
 
-/* What a variable is where a strip begins. */
-Value *versioning::begin_strip(IRBuilder<> &builder, PHINode *variable)
+/* The variables of the copies begin where a strip does, and where the last has ended. */
+void versioning::join_variable(PHINode &variable)
 {
-    Value *first = variable->getIncomingValueForBlock(checked);
-    if (has_one_strip)
-        return first;
-    Type *type = variable->getType();
-    const auto *moved = of.evolution.isSCEVable(type) ? dyn_cast<SCEVAddRecExpr>(of.evolution.getSCEV(variable))
-                                                      : nullptr;
-    const SCEVConstant *step = moved != nullptr && moved->getLoop() == it.loop && moved->isAffine()
-                                   ? dyn_cast<SCEVConstant>(moved->getStepRecurrence(of.evolution))
-                                   : nullptr;
-    if (step != nullptr && (type->isPointerTy() || type->isIntegerTy())) {
-        Type *wide = type->isPointerTy() ? word : type;
-        Value *way = builder.CreateMul(builder.CreateZExtOrTrunc(rounds_done, wide), step->getValue());
-        if (type->isIntegerTy())
-            return builder.CreateAdd(first, way);
-        Value *moved_to = builder.CreateGEP(byte, builder.CreateBitCast(first, byte->getPointerTo()), way);
-        return builder.CreateBitCast(moved_to, type);
+    Value *begin = variable.getIncomingValueForBlock(checked);
+    auto *copy = cast<PHINode>(static_cast<Value *>(copies.lookup(&variable)));
+    if (has_one_strip) {
+        copy->setIncomingValueForBlock(good, begin);
+        return;
     }
-    PHINode *at = PHINode::Create(type, 2, "", &strip->front());
-    at->addIncoming(first, before);
-    at->addIncoming(good_at_end(variable->getIncomingValueForBlock(it.loop->getLoopLatch())), done);
-    return at;
-}
-
-/* The variables of both loops begin where a strip begins. */
-void versioning::join_variables()
-{
-    IRBuilder<> builder(strip->getFirstNonPHI());
-    builder.SetCurrentDebugLocation(place());
-    for (PHINode &variable : it.loop->getHeader()->phis()) {
-        auto *copy = cast<PHINode>(copies.find(&variable)->second);
-        Value *first = variable.getIncomingValueForBlock(checked), *at = begin_strip(builder, &variable);
-        PHINode *start = PHINode::Create(variable.getType(), 2, "", &checked->front());
-        start->addIncoming(first, before);
-        start->addIncoming(at, strip);
-        variable.setIncomingValueForBlock(checked, start);
-        copy->setIncomingValueForBlock(good, at);
+    auto *copy_of_rest = cast<PHINode>(static_cast<Value *>(copies_of_rest.lookup(&variable)));
+    IRBuilder<> builder(strip->getTerminator()), builder_of_rest(again->getTerminator());
+    if (Value *moved = moved_by(builder, variable, rounds_done)) {
+        copy->setIncomingValueForBlock(good, moved);
+        copy_of_rest->setIncomingValueForBlock(rest, moved_by(builder_of_rest, variable, rounds_next));
+        return;
     }
+    Value *next = at_end(copies, fast, variable.getIncomingValueForBlock(it.loop->getLoopLatch()), done);
+    PHINode *at = PHINode::Create(variable.getType(), 2, "", &strip->front());
+    at->addIncoming(begin, first);
+    at->addIncoming(next, again);
+    copy->setIncomingValueForBlock(good, at);
+    copy_of_rest->setIncomingValueForBlock(rest, next);
 }
 
-/* What is used after the loop comes from either. */
+/* What is used after the loop comes from any of them. */
 void versioning::join_exit()
 {
     BasicBlock *latch = it.loop->getLoopLatch();
@@ -299,54 +357,49 @@ void versioning::join_exit()
         of.evolution.forgetValue(&used);
         used.replaceIncomingBlockWith(latch, left);
         used.setIncomingValueForBlock(left, kept);
-        used.addIncoming(good_at_end(value), done);
+        used.addIncoming(at_end(copies, fast, value, done), done);
+        if (!has_one_strip)
+            used.addIncoming(at_end(copies_of_rest, rest_loop, value, left_of_rest), left_of_rest);
     }
-    IRBuilder<> builder(done);
-    if (has_one_strip) {
-        builder.CreateBr(exit);
-        return;
-    }
-    Value *counted = it.inner.empty() ? builder.CreateAnd(rounds_good, number(~(STRIP_UNIT - 1))) : rounds_good;
-    Value *next = builder.CreateAdd(rounds_done, counted);
-    builder.CreateCondBr(builder.CreateICmpEQ(rounds_good, rounds_left), exit, strip);
-    rounds_done->addIncoming(number(0), before);
-    rounds_done->addIncoming(next, done);
 }
 
-void versioning::leave_before()
+void versioning::note_strips(Loop *parent)
 {
-    Instruction *end = before->getTerminator();
-    IRBuilder<>(end).CreateCondBr(is_fit, strip, checked);
-    end->eraseFromParent();
+    Loop *strips = of.loops.AllocateLoop();
+    if (parent != nullptr) {
+        parent->removeChildLoop(fast);
+        parent->addChildLoop(strips);
+    } else {
+        of.loops.changeTopLevelLoop(fast, strips);
+    }
+    strips->addChildLoop(fast);
+    strips->addBasicBlockToLoop(strip, of.loops);
+    strips->addBlockEntry(good);
+    of.loops.changeLoopFor(good, strips);
+    for (BasicBlock *block : fast->blocks())
+        strips->addBlockEntry(block);
+    strips->addBasicBlockToLoop(done, of.loops);
+    strips->addBasicBlockToLoop(again, of.loops);
+    /* It seldom runs: so it shall be small. */
+    for (Loop *each : rest_loop->getLoopsInPreorder()) {
+        addStringMetadataToLoop(each, "llvm.loop.vectorize.enable", 0);
+        addStringMetadataToLoop(each, "llvm.loop.unroll.disable", 1);
+    }
 }
 
 /* The analyses of loops and of dominators hold again, and the others of this loop are taken back. */
 void versioning::note_loops()
 {
     Loop *parent = it.loop->getParentLoop(), *after = of.loops.getLoopFor(exit);
+    if (parent != nullptr)
+        parent->addBasicBlockToLoop(first, of.loops);
     if (after != nullptr)
         after->addBasicBlockToLoop(left, of.loops);
-    if (has_one_strip) {
-        if (parent != nullptr)
-            parent->addBasicBlockToLoop(strip, of.loops);
-        if (after != nullptr)
-            after->addBasicBlockToLoop(done, of.loops);
-    } else {
-        Loop *strips = of.loops.AllocateLoop();
-        if (parent != nullptr) {
-            parent->removeChildLoop(fast);
-            parent->addChildLoop(strips);
-        } else {
-            of.loops.changeTopLevelLoop(fast, strips);
-        }
-        strips->addChildLoop(fast);
-        strips->addBasicBlockToLoop(strip, of.loops);
-        strips->addBlockEntry(good);
-        of.loops.changeLoopFor(good, strips);
-        for (BasicBlock *block : fast->blocks())
-            strips->addBlockEntry(block);
-        strips->addBasicBlockToLoop(done, of.loops);
-    }
+    if (!has_one_strip)
+        note_strips(parent);
+    BasicBlock *other = has_one_strip ? done : left_of_rest;
+    if (after != nullptr)
+        after->addBasicBlockToLoop(other, of.loops);
     of.tree.recalculate(of.function);
     of.evolution.forgetTopmostLoop(it.loop);
 }
@@ -357,11 +410,15 @@ void versioning::make(const std::function<void(Instruction &)> &mark)
     find_strips();
     compute_before();
     split();
-    test();
+    test_all();
+    if (has_one_strip)
+        IRBuilder<>(done).CreateBr(exit);
+    else
+        test_strips();
     end_fast_loop();
-    join_variables();
+    for (PHINode &variable : it.loop->getHeader()->phis())
+        join_variable(variable);
     join_exit();
-    leave_before();
     for (const range &each : it.ranges)
         for (Instruction *access : each.accesses)
             if (auto *copy = dyn_cast_or_null<Instruction>(static_cast<Value *>(copies.lookup(access))))

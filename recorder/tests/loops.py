@@ -1,0 +1,117 @@
+"""Loops that Clang's plugin tests as a whole (loops/loops.c): what a run prints and reports is the same without it, by all
+of them and by drawn ones, of which some go past an end, before a start or over poison. With the plugin copies without
+checks have run."""
+
+import glob
+import os
+import re
+import shutil
+from typing import List, Sequence, Tuple
+
+from support import CC, RECORDER, TESTS, TOP, Compiler, Suite, expect, leave_out, run
+
+RUN = f"{TOP}/run/asancol-run"
+# So the program counts the tests that found a loop good.
+COUNTED = ["-Wl,--wrap=__asan_good_loop", "-Wl,--wrap=__asan_good_rounds"]
+SEEDS = (1, 2, 3, 4)
+# The arguments of each run, and how many good tests it has at least.
+RUNS = [(["table"], 1000), (["wild"], 0), *((["drawn", str(seed), "200"], 100) for seed in SEEDS),
+        (["drawn", "5", "200", "threads"], 100)]
+# What differs from build to build: the process, code, and what is not in the heap.
+VARIES = [(r"==\d+==", "==PID=="), (r" 0x[0-9a-f]{3,8} in ", " CODE in "), (r"0x[57][0-9a-f]{11}\b", "ADDRESS"),
+          (r"process \d+ \S+:", "process:")]
+
+
+def has_loops(compiler: Compiler) -> bool:
+    said = run([CC, "-###", "-O2", "-c", "any.c"], ".", ASANCOL_CC=compiler.name).stderr
+    return b"libasancol_loops.so" in said
+
+
+def ran(folder: str, suite: Suite, program: str, words: Sequence[str]) -> Tuple[str, str, int]:
+    """What a run prints, what is reported of it, and how many good tests there were."""
+    taken = f"{folder}/taken"
+    done = run([RUN, "--", program, *words], folder, ASANCOL=suite.asancol, TAKEN=taken)
+    said = done.stderr.decode()
+    for pattern, text in VARIES:
+        said = re.sub(pattern, text, said)
+    count = 0
+    if os.path.exists(taken):
+        with open(taken, encoding="utf-8") as file:
+            count = int(file.read())
+        os.unlink(taken)
+    return done.stdout.decode(), said, count
+
+
+def check_same(suite: Suite, folder: str, compiler: Compiler, flags: Sequence[str]) -> None:
+    sources = f"{TESTS}/loops"
+    compiler.c(folder, [f"{sources}/main.c"], "main.o", "-w", "-O1", "-c", "--asancol-no-loops")
+    for program, option in (("with", []), ("without", ["--asancol-no-loops"])):
+        compiler.c(folder, [f"{sources}/loops.c", "main.o"], f"{folder}/{program}", "-w", "-pthread", *COUNTED, *flags,
+                   *option)
+    for words, least in RUNS:
+        printed, said, taken = ran(folder, suite, f"{folder}/with", words)
+        printed_without, said_without, taken_without = ran(folder, suite, f"{folder}/without", words)
+        of = " ".join([*flags, *words])
+        expect(printed, printed_without, f"{of}: what it prints")
+        expect_same(said.splitlines(), said_without.splitlines(), of)
+        expect((taken >= least, taken_without), (True, 0), f"{of}: {taken} good tests")
+
+
+def expect_same(found: List[str], wanted: List[str], of: str) -> None:
+    """The first difference is named, since the texts are long."""
+    for number, (one, other) in enumerate(zip(found, wanted)):
+        expect(one, other, f"{of}: line {number}")
+    expect(len(found), len(wanted), f"{of}: how many lines there are")
+
+
+def check_options(_suite: Suite, folder: str, compiler: Compiler) -> None:
+    """It is given where it helps, and only to a version that it was made for."""
+    def is_given(*words: str) -> bool:
+        said = run([CC, "-###", "-c", *words, "any.c"], folder, ASANCOL_CC=compiler.name).stderr
+        return b"libasancol_loops.so" in said
+    expect([is_given("-O2"), is_given("-O2", "-O0"), is_given()], [True, False, False], "by the level")
+    expect([is_given("-O2", "--asancol-no-loops"), is_given("-O2", "--asancol-all")], [False, False], "by an option")
+    for path in glob.glob(f"{RECORDER}/*"):
+        if not re.search(r"libasancol_loops_\d+\.so$", path):
+            os.symlink(path, f"{folder}/{os.path.basename(path)}")
+    os.unlink(f"{folder}/asancol-cc")
+    os.link(f"{RECORDER}/asancol-cc", f"{folder}/asancol-cc")
+    with open(f"{folder}/any.c", "w", encoding="utf-8") as file:
+        file.write("int sum(const int *a, int n) { int s = 0; for (int i = 0; i < n; i++) s += a[i]; return s; }\n")
+    for words, has_line in (([], False), (["-v"], True)):
+        made = run([f"{folder}/asancol-cc", "-O2", "-c", *words, "any.c"], folder, ASANCOL_CC=compiler.name)
+        expect((made.returncode, b"loops are checked access by access" in made.stderr), (0, has_line), f"{words}")
+
+
+def check_broken(_suite: Suite, folder: str, compiler: Compiler) -> None:
+    """Passes that can't be loaded break no build."""
+    for path in glob.glob(f"{RECORDER}/*"):
+        os.symlink(path, f"{folder}/{os.path.basename(path)}")
+    for path in glob.glob(f"{folder}/libasancol_loops*"):
+        os.unlink(path)
+        if path.endswith("loops.so"):
+            os.link(f"{RECORDER}/{os.path.basename(path)}", path)
+        else:
+            with open(path, "w", encoding="utf-8"):
+                pass
+    os.unlink(f"{folder}/asancol-cc")
+    os.link(f"{RECORDER}/asancol-cc", f"{folder}/asancol-cc")
+    made = run([f"{folder}/asancol-cc", "-O2", "-c", f"{TESTS}/loops/loops.c"], folder, ASANCOL_CC=compiler.name)
+    expect((made.returncode, made.stderr), (0, b""), "the compiler")
+
+
+def tests(suite: Suite, compiler: Compiler) -> None:
+    if compiler.name != "clang":
+        return
+    if not has_loops(compiler):
+        leave_out(f"the plugin for loops of {compiler} is not there")
+        return
+    suite.test(f"{compiler} loops options", check_options, compiler)
+    suite.test(f"{compiler} loops broken", check_broken, compiler)
+    levels = [["-O1"], ["-O2"], ["-O3"], ["-O2", "-march=haswell"]]
+    if shutil.which("ld.lld"):
+        levels += [["-O2", "-fuse-ld=lld", "-flto"], ["-O2", "-fuse-ld=lld", "-flto=thin"]]
+    else:
+        leave_out("lld is not there, which links what -flto makes")
+    for flags in levels:
+        suite.test(f"{compiler} loops same {' '.join(flags)}", check_same, compiler, flags)
