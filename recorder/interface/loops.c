@@ -29,6 +29,22 @@ static inline uint64_t cut(uint64_t rounds, uint64_t instructions, uint64_t unit
     return most / instructions & ~(unit - 1);
 }
 
+/* Whether each byte of a region is addressable: most of it by wide loads, and the rest as elsewhere. */
+static inline bool is_clean(uint64_t address, uint64_t size)
+{
+    typedef uint64_t lanes __attribute__((vector_size(16), aligned(1), may_alias));
+    enum { LOADS = 8, PIECE = LOADS * sizeof(lanes) * GRANULE };
+    if (address >= ADDRESS_END || size > ADDRESS_END - address)
+        return false;
+    for (; size > PIECE; address += PIECE, size -= PIECE) {
+        const lanes *at = (const lanes *)(uintptr_t)shadow_of(address);
+        lanes all = ((at[0] | at[1]) | (at[2] | at[3])) | ((at[4] | at[5]) | (at[6] | at[7]));
+        if ((all[0] | all[1]) != 0)
+            return false;
+    }
+    return shadow_is_clean(address, size);
+}
+
 /* Whether the accesses of so many rounds are good: to `bytes` bytes from `start` on, which moves by `step` from each
    round to the next. It reads the shadow without a word to other threads, as an inline check does. */
 static inline bool are_good(uint64_t rounds, uintptr_t start, int64_t step, uint64_t bytes, uint64_t instructions)
@@ -39,7 +55,7 @@ static inline bool are_good(uint64_t rounds, uintptr_t start, int64_t step, uint
         return false;
     int64_t way = step * (int64_t)(rounds - 1);
     uint64_t length = (uint64_t)(way < 0 ? -way : way), most = most_bytes(rounds * instructions);
-    return bytes <= most && length <= most - bytes && shadow_is_clean(way < 0 ? start - length : start, length + bytes);
+    return bytes <= most && length <= most - bytes && is_clean(way < 0 ? start - length : start, length + bytes);
 }
 
 /* Whether all rounds of a loop need no check of an access: then how many of them one look at the shadow is for, and

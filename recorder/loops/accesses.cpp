@@ -114,8 +114,8 @@ bool access_reader::is_known(const SCEV *value, Loop *loop) const
 const SCEV *access_reader::last_round(Loop *loop, Loop *known_before) const
 {
     const SCEV *last = has_one_exit(loop) ? evolution.getExitCount(loop, loop->getLoopLatch()) : nullptr;
-    if (last == nullptr || isa<SCEVCouldNotCompute>(last) || is_dear(last) || evolution.getTypeSizeInBits(last->getType()) > 64
-        || !is_known(last, known_before))
+    if (last == nullptr || isa<SCEVCouldNotCompute>(last) || is_dear(last)
+        || evolution.getTypeSizeInBits(last->getType()) > 64 || !is_known(last, known_before))
         return nullptr;
     return evolution.getNoopOrZeroExtend(last, Type::getInt64Ty(function.getContext()));
 }

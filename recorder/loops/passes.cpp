@@ -1,7 +1,7 @@
 /* The passes that LLVM gets, for one of its major versions. plugin.c loads this into a Clang that has that version.
 
-   AddressSanitizer's pass comes last, or just before loops are vectorized (-sanitizer-early-opt-ep). Where it comes last,
-   a copy is made before loops are vectorized, so that it is, too. The vectorizer passes on few marks, of which one is a
+   AddressSanitizer's pass comes last, or just before loops are vectorized (-sanitizer-early-opt-ep). Where it comes
+   last, a copy is made before loops are vectorized, so that it is, too. The vectorizer passes on few marks, of which one is a
    group of accesses: our own group becomes the mark that AddressSanitizer's pass heeds just before that comes. Two
    accesses that become one are in a group only if both were, so a mark that is lost costs a check, and no report. */
 #include <llvm/Analysis/AssumptionCache.h>

@@ -8,8 +8,8 @@
        again -> strip                    if the test finds the next strip good, else rest
        checked -> loop -> left -> exit
        rest -> loop -> left of rest -> exit
-   Both the fast loop and the rest are copies. The loop itself begins as it did, and is compiled as it would be alone, so
-   that its reports are the same. The rest is only for what another thread, or a signal handler, makes bad meanwhile. If
+   Both the fast loop and the rest are copies. The loop itself begins as it did, and is compiled as it would be alone,
+   so that its reports are the same. The rest is only for what another thread, or a signal handler, makes bad meanwhile. If
    the number of rounds is a small constant there is one strip: then `first` leads to `good`, and `done` to the exit. */
 #include "loops/versions.hpp"
 
@@ -76,7 +76,10 @@ private:
     Value *number(uint64_t value) const { return ConstantInt::get(word, value); }
     DebugLoc place() const;
     BasicBlock *make_block(const char *name, BasicBlock *next);
-    Value *expand(const SCEV *value, Type *type) { return expander.expandCodeFor(value, type, before->getTerminator()); }
+    Value *expand(const SCEV *value, Type *type)
+    {
+        return expander.expandCodeFor(value, type, before->getTerminator());
+    }
     void require(IRBuilder<> &builder, Value *condition);
     void find_strips();
     void count_work(IRBuilder<> &builder);
@@ -223,7 +226,9 @@ Value *versioning::test(IRBuilder<> &builder, const char *name, Value *rounds, V
         declared->addFnAttr(Attribute::WillReturn);
         declared->addParamAttr(1, Attribute::NoCapture);
     }
-    Value *start = from == nullptr ? each.start : builder.CreateGEP(byte, each.start, builder.CreateMul(from, each.step));
+    Value *start = each.start;
+    if (from != nullptr)
+        start = builder.CreateGEP(byte, start, builder.CreateMul(from, each.step));
     uint64_t unit = it.inner.empty() ? STRIP_UNIT : 1;
     return builder.CreateCall(function, {rounds, start, each.step, each.bytes, work, number(unit)});
 }
@@ -241,7 +246,8 @@ void versioning::test_all()
     }
     rounds_good = rounds;
     Value *is_good = has_one_strip ? builder.CreateICmpEQ(rounds, all) : builder.CreateICmpNE(rounds, none);
-    builder.CreateCondBr(is_good, has_one_strip ? good : strip, checked, MDBuilder(context).createBranchWeights(1000, 1));
+    builder.CreateCondBr(is_good, has_one_strip ? good : strip, checked,
+                         MDBuilder(context).createBranchWeights(1000, 1));
 }
 
 /* Strips, and the tests of all but the first. */

@@ -1,5 +1,5 @@
-"""Loops that Clang's plugin tests as a whole (loops/loops.c): what a run prints and reports is the same without it, by all
-of them and by drawn ones, of which some go past an end, before a start or over poison. With the plugin copies without
+"""Loops that Clang's plugin tests as a whole (loops/loops.c): what a run prints and reports is the same without it, by
+all of them and by drawn ones, of which some go past an end, before a start or over poison. With the plugin copies without
 checks have run."""
 
 import glob
@@ -23,7 +23,7 @@ VARIES = [(r"==\d+==", "==PID=="), (r" 0x[0-9a-f]{3,8} in ", " CODE in "), (r"0x
 
 
 def has_loops(compiler: Compiler) -> bool:
-    said = run([CC, "-###", "-O2", "-c", "any.c"], ".", ASANCOL_CC=compiler.name).stderr
+    said = run([CC, "-###", "-O2", "-c", f"{TESTS}/loops/loops.c"], ".", ASANCOL_CC=compiler.name).stderr
     return b"libasancol_loops.so" in said
 
 
@@ -67,7 +67,7 @@ def expect_same(found: List[str], wanted: List[str], of: str) -> None:
 def check_options(_suite: Suite, folder: str, compiler: Compiler) -> None:
     """It is given where it helps, and only to a version that it was made for."""
     def is_given(*words: str) -> bool:
-        said = run([CC, "-###", "-c", *words, "any.c"], folder, ASANCOL_CC=compiler.name).stderr
+        said = run([CC, "-###", "-c", *words, f"{TESTS}/loops/loops.c"], folder, ASANCOL_CC=compiler.name).stderr
         return b"libasancol_loops.so" in said
     expect([is_given("-O2"), is_given("-O2", "-O0"), is_given()], [True, False, False], "by the level")
     expect([is_given("-O2", "--asancol-no-loops"), is_given("-O2", "--asancol-all")], [False, False], "by an option")
