@@ -33,7 +33,8 @@ def environment(*unset: str, **settings: str) -> Dict[str, str]:
     settings."""
     without = ("ASANCOL", "ASAN_OPTIONS", "LSAN_OPTIONS", "NO_COLOR", *unset)
     kept = {name: value for name, value in os.environ.items() if not name.startswith(without)}
-    return {**kept, "LC_ALL": "C", **settings}
+    # A copy of the recorder needs no plugins for loops, which take long to build.
+    return {**kept, "LC_ALL": "C", "LLVM_CONFIGS": "", **settings}
 
 
 class Ran(NamedTuple):

@@ -9,7 +9,8 @@
 
 using namespace llvm;
 
-namespace {
+namespace
+{
 
 /* At least so many rounds, if their number is constant: a test is a call. */
 const unsigned LEAST_ROUNDS = 32;
@@ -95,7 +96,7 @@ bool is_same(const range &one, const range &other)
 {
     return one.step == other.step && one.inner == other.inner && one.inner_step == other.inner_step;
 }
-}
+} // namespace
 
 /* Whether it can be computed before the loop. */
 bool access_reader::is_known(const SCEV *value, Loop *loop) const

@@ -33,8 +33,9 @@ struct tested_loop {
     unsigned instructions; /* of a round, without inner loops */
 };
 
-class access_reader {
-public:
+class access_reader
+{
+  public:
     access_reader(llvm::Function &function, llvm::LoopInfo &loops, llvm::DominatorTree &tree,
                   llvm::ScalarEvolution &evolution)
         : function(function), loops(loops), tree(tree), evolution(evolution)
@@ -44,7 +45,7 @@ public:
     /* Whether it can be tested, and is worth it. It is an innermost loop, or has only such in it. */
     bool read(llvm::Loop *loop, tested_loop &it);
 
-private:
+  private:
     llvm::Function &function;
     llvm::LoopInfo &loops;
     llvm::DominatorTree &tree;

@@ -1,8 +1,8 @@
 /* The passes that LLVM gets, for one of its major versions. plugin.c loads this into a Clang that has that version.
 
    AddressSanitizer's pass comes last, or just before loops are vectorized (-sanitizer-early-opt-ep). Where it comes
-   last, a copy is made before loops are vectorized, so that it is, too. The vectorizer passes on few marks, of which one is a
-   group of accesses: our own group becomes the mark that AddressSanitizer's pass heeds just before that comes. Two
+   last, a copy is made before loops are vectorized, so that it is, too. The vectorizer passes on few marks, such as
+   groups of accesses: our own group becomes the mark that AddressSanitizer's pass heeds just before that comes. Two
    accesses that become one are in a group only if both were, so a mark that is lost costs a check, and no report. */
 #include <llvm/Analysis/AssumptionCache.h>
 #include <llvm/Analysis/VectorUtils.h>
@@ -20,7 +20,8 @@
 
 using namespace llvm;
 
-namespace {
+namespace
+{
 
 /* How a good access is marked. */
 enum class mark { GROUP, UNCHECKED };
@@ -64,12 +65,15 @@ bool has_group(const Instruction &instruction, const MDNode *group)
 }
 
 /* Makes the copies, of a nest from outside: what is left of it is looked at loop by loop. */
-class version_loops : public PassInfoMixin<version_loops> {
-public:
-    explicit version_loops(mark how) : how(how) {}
+class version_loops : public PassInfoMixin<version_loops>
+{
+  public:
+    explicit version_loops(mark how) : how(how)
+    {
+    }
     PreservedAnalyses run(Function &function, FunctionAnalysisManager &manager);
 
-private:
+  private:
     mark how;
 
     bool visit(const analyses &of, Loop *loop);
@@ -158,7 +162,7 @@ void add_passes(PassBuilder &builder)
             passes.addPass(createModuleToFunctionPassAdaptor(version_loops(mark::UNCHECKED)));
     });
 }
-}
+} // namespace
 
 extern "C" void asancol_add_loops(void *builder)
 {

@@ -1,6 +1,6 @@
 /* What Clang loads as a plugin. It needs nothing of LLVM, so that it can be loaded into any Clang: one that can't load
-   its plugin compiles nothing. It loads the passes that were made for the LLVM in this process (passes.cpp). If there are
-   none, or LLVM has not all that they need, it does nothing. */
+   its plugin compiles nothing. It loads the passes that were made for the LLVM in this process (passes.cpp). If
+   there are none, or LLVM has not all that they need, it does nothing. */
 #define _GNU_SOURCE
 #include "loops/plugin.h"
 

@@ -9,8 +9,8 @@
        checked -> loop -> left -> exit
        rest -> loop -> left of rest -> exit
    Both the fast loop and the rest are copies. The loop itself begins as it did, and is compiled as it would be alone,
-   so that its reports are the same. The rest is only for what another thread, or a signal handler, makes bad meanwhile. If
-   the number of rounds is a small constant there is one strip: then `first` leads to `good`, and `done` to the exit. */
+   so that its reports are the same. The rest is only for what another thread, or a signal handler, makes bad meanwhile.
+   If the number of rounds is a small constant there is one strip: then `first` leads to `good`, and `done` to the exit. */
 #include "loops/versions.hpp"
 
 #include <llvm/Analysis/ScalarEvolutionExpressions.h>
@@ -27,7 +27,8 @@
 
 using namespace llvm;
 
-namespace {
+namespace
+{
 
 /* So many instructions at least that the checks of a loop are worth a test. */
 const uint64_t LEAST_ROUNDS = 32;
@@ -42,18 +43,18 @@ struct tested_range {
     Value *start, *step, *bytes;
 };
 
-class versioning {
-public:
+class versioning
+{
+  public:
     versioning(const analyses &of, const tested_loop &it)
         : of(of), it(it), context(of.function.getContext()), word(Type::getInt64Ty(context)),
-          byte(Type::getInt8Ty(context)),
-          expander(of.evolution, of.function.getParent()->getDataLayout(), "asancol")
+          byte(Type::getInt8Ty(context)), expander(of.evolution, of.function.getParent()->getDataLayout(), "asancol")
     {
     }
 
     void make(const std::function<void(Instruction &)> &mark);
 
-private:
+  private:
     const analyses &of;
     const tested_loop &it;
     LLVMContext &context;
@@ -73,7 +74,10 @@ private:
     PHINode *rounds_done = nullptr;
     Value *rounds_good = nullptr, *rounds_next = nullptr;
 
-    Value *number(uint64_t value) const { return ConstantInt::get(word, value); }
+    Value *number(uint64_t value) const
+    {
+        return ConstantInt::get(word, value);
+    }
     DebugLoc place() const;
     BasicBlock *make_block(const char *name, BasicBlock *next);
     Value *expand(const SCEV *value, Type *type)
@@ -431,7 +435,7 @@ void versioning::make(const std::function<void(Instruction &)> &mark)
                 mark(*copy);
     note_loops();
 }
-}
+} // namespace
 
 void make_versions(const analyses &of, const tested_loop &it, const std::function<void(Instruction &)> &mark)
 {

@@ -1,6 +1,6 @@
 """Loops that Clang's plugin tests as a whole (loops/loops.c): what a run prints and reports is the same without it, by
-all of them and by drawn ones, of which some go past an end, before a start or over poison. With the plugin copies without
-checks have run."""
+all of them and by drawn ones, of which some go past an end, before a start or over poison. With the plugin
+copies without checks have run."""
 
 import glob
 import os
@@ -11,6 +11,7 @@ from typing import List, Sequence, Tuple
 from support import CC, RECORDER, TESTS, TOP, Compiler, Suite, expect, leave_out, run
 
 RUN = f"{TOP}/run/asancol-run"
+LOOPS = "--asancol-loops"
 # So the program counts the tests that found a loop good.
 COUNTED = ["-Wl,--wrap=__asan_good_loop", "-Wl,--wrap=__asan_good_rounds"]
 SEEDS = (1, 2, 3, 4)
@@ -23,7 +24,7 @@ VARIES = [(r"==\d+==", "==PID=="), (r" 0x[0-9a-f]{3,8} in ", " CODE in "), (r"0x
 
 
 def has_loops(compiler: Compiler) -> bool:
-    said = run([CC, "-###", "-O2", "-c", f"{TESTS}/loops/loops.c"], ".", ASANCOL_CC=compiler.name).stderr
+    said = run([CC, "-###", "-O2", LOOPS, "-c", f"{TESTS}/loops/loops.c"], ".", ASANCOL_CC=compiler.name).stderr
     return b"libasancol_loops.so" in said
 
 
@@ -44,8 +45,8 @@ def ran(folder: str, suite: Suite, program: str, words: Sequence[str]) -> Tuple[
 
 def check_same(suite: Suite, folder: str, compiler: Compiler, flags: Sequence[str]) -> None:
     sources = f"{TESTS}/loops"
-    compiler.c(folder, [f"{sources}/main.c"], "main.o", "-w", "-O1", "-c", "--asancol-no-loops")
-    for program, option in (("with", []), ("without", ["--asancol-no-loops"])):
+    compiler.c(folder, [f"{sources}/main.c"], "main.o", "-w", "-O1", "-c")
+    for program, option in (("with", [LOOPS]), ("without", [])):
         compiler.c(folder, [f"{sources}/loops.c", "main.o"], f"{folder}/{program}", "-w", "-pthread", *COUNTED, *flags,
                    *option)
     for words, least in RUNS:
@@ -67,10 +68,12 @@ def expect_same(found: List[str], wanted: List[str], of: str) -> None:
 def check_options(_suite: Suite, folder: str, compiler: Compiler) -> None:
     """It is given where it helps, and only to a version that it was made for."""
     def is_given(*words: str) -> bool:
-        said = run([CC, "-###", "-c", *words, f"{TESTS}/loops/loops.c"], folder, ASANCOL_CC=compiler.name).stderr
+        argv = [CC, "-###", "-c", *words, f"{TESTS}/loops/loops.c"]
+        said = run(argv, folder, ASANCOL_CC=compiler.name).stderr
         return b"libasancol_loops.so" in said
-    expect([is_given("-O2"), is_given("-O2", "-O0"), is_given()], [True, False, False], "by the level")
-    expect([is_given("-O2", "--asancol-no-loops"), is_given("-O2", "--asancol-all")], [False, False], "by an option")
+    levels = [is_given(LOOPS, "-O2"), is_given(LOOPS, "-O2", "-O0"), is_given(LOOPS)]
+    expect(levels, [True, False, False], "by the level")
+    expect([is_given("-O2"), is_given(LOOPS, "-O2", "--asancol-all")], [False, False], "by an option")
     for path in glob.glob(f"{RECORDER}/*"):
         if not re.search(r"libasancol_loops_\d+\.so$", path):
             os.symlink(path, f"{folder}/{os.path.basename(path)}")
@@ -79,7 +82,7 @@ def check_options(_suite: Suite, folder: str, compiler: Compiler) -> None:
     with open(f"{folder}/any.c", "w", encoding="utf-8") as file:
         file.write("int sum(const int *a, int n) { int s = 0; for (int i = 0; i < n; i++) s += a[i]; return s; }\n")
     for words, has_line in (([], False), (["-v"], True)):
-        made = run([f"{folder}/asancol-cc", "-O2", "-c", *words, "any.c"], folder, ASANCOL_CC=compiler.name)
+        made = run([f"{folder}/asancol-cc", LOOPS, "-O2", "-c", *words, "any.c"], folder, ASANCOL_CC=compiler.name)
         expect((made.returncode, b"loops are checked access by access" in made.stderr), (0, has_line), f"{words}")
 
 
@@ -96,7 +99,7 @@ def check_broken(_suite: Suite, folder: str, compiler: Compiler) -> None:
                 pass
     os.unlink(f"{folder}/asancol-cc")
     os.link(f"{RECORDER}/asancol-cc", f"{folder}/asancol-cc")
-    made = run([f"{folder}/asancol-cc", "-O2", "-c", f"{TESTS}/loops/loops.c"], folder, ASANCOL_CC=compiler.name)
+    made = run([f"{folder}/asancol-cc", LOOPS, "-O2", "-c", f"{TESTS}/loops/loops.c"], folder, ASANCOL_CC=compiler.name)
     expect((made.returncode, made.stderr), (0, b""), "the compiler")
 
 

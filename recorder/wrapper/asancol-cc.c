@@ -60,7 +60,7 @@ int main(int count, char **argv)
     say_as(job.front->name);
     struct own_options own = own_options_take(argv, &called);
     request->is_all = own.is_all;
-    request->tests_loops = !own.is_without_loops;
+    request->tests_loops = own.has_loops;
     job.command = command_of(own.compiler, job.front);
     read_arguments(&job);
     job.takes_part = request->inputs.has_any && request->foreign == NULL;

@@ -13,17 +13,17 @@
 
 struct own_options own_options_take(char **argv, const struct called *called)
 {
-    static const char all[] = "--asancol-all", compiler[] = "--asancol-compiler=", no_loops[] = "--asancol-no-loops";
+    static const char all[] = "--asancol-all", compiler[] = "--asancol-compiler=", loops[] = "--asancol-loops";
     const char *setting = getenv("ASANCOL_ALL");
-    struct own_options own = {called->compiler, setting != NULL && strcmp(setting, "1") == 0};
+    struct own_options own = {.compiler = called->compiler, .is_all = setting != NULL && strcmp(setting, "1") == 0};
     if (own.compiler == NULL)
         own.compiler = getenv(called->front->variable);
     char **kept = argv + 1;
     for (char **word = argv + 1; *word != NULL; word++) {
         if (strcmp(*word, all) == 0)
             own.is_all = true;
-        else if (strcmp(*word, no_loops) == 0)
-            own.is_without_loops = true;
+        else if (strcmp(*word, loops) == 0)
+            own.has_loops = true;
         else if (begins_with(*word, compiler))
             own.compiler = *word + strlen(compiler);
         else

@@ -10,7 +10,7 @@
 /* What is for the wrapper itself. ccache sees options, and no variables. */
 struct own_options {
     const char *compiler; /* in words, or null */
-    bool is_all, is_without_loops;
+    bool is_all, has_loops;
 };
 
 /* Takes its options out of the arguments, and what they do not say from its name, or else the environment. */

@@ -1,6 +1,6 @@
 /* Runs the loops of loops.c: those of the table below, or drawn ones, of which some go where they may not. It prints
-   what they return and leave. With `threads` a second thread was there before. The number of tests of a loop that found all
-   good goes to the file that TAKEN names. usage: PROGRAM table | PROGRAM wild | PROGRAM drawn SEED COUNT [threads] */
+   what they return and leave. With `threads` a second thread was there before. The number of tests of a loop that found
+   all good goes to the file that TAKEN names. usage: PROGRAM table | PROGRAM wild | PROGRAM drawn SEED COUNT [threads] */
 #include <pthread.h>
 #include <stdint.h>
 #include <stdio.h>
@@ -58,28 +58,34 @@ static void end(int number)
 
 /* Each with its arrays made anew. */
 #define TABLE                                                                                                          \
-    IT(up(a, N)) IT(up(a, N + 1)) IT(up(a, N + 5))                                                                     \
-    IT(s = sum(a, 0, N)) IT(s = sum(a, -1, N)) IT(s = sum(a, -3, N + 3)) IT(s = sum(a, 5, 5)) IT(s = sum(a, 9, 3))     \
-    IT(down(h, N - 1, 0)) IT(down(h, N, 0)) IT(down(h, N - 1, -2))                                                     \
-    IT(where(a, c, N)) IT(where(a, c, N + 1)) IT((c[39] = 0, where(a, c, N)))                                          \
-    IT(s = find(c, N, 2)) IT(s = find(c, N + 3, 2)) IT((c[20] = 2, s = find(c, 100, 2)))                               \
-    IT((c[20] = 2, s = find(c, 4000000000u, 2)))                                                                       \
-    IT(fill(m, N, N, N)) IT(fill(m, N, N + 1, N)) IT(fill(m, N + 1, 2, N)) IT(fill(m - 1, N, N, N))                    \
-    IT(fill(m, 0, N, N)) IT(fill(m, N, 0, N)) IT(fill(m + N * (N - 1), N, N, -N)) IT(fill(m + N * (N - 2), N, N, -N))  \
-    IT(multiply(m, m2, m3, N)) IT(multiply(m, m2, m3, N + 1)) IT(multiply(m, m2, m3 + 1, N))                           \
-    IT((free(m3), multiply(m, m2, m3, 9), m3 = NULL))                                                                  \
-    IT(stencil(b, a, N)) IT(stencil(b, a, N + 1)) IT(stencil(b, a + 2, N - 2)) IT(stencil(b, a - 1, N))                \
-    IT(until((unsigned char *)c, 0)) IT(until((unsigned char *)c + 20, 0)) IT(until((unsigned char *)c + 20, 30))      \
-    IT(step(c, 10, 4)) IT(step(c, 11, 4)) IT(step(c + 39, N, -1)) IT(step(c + 38, N, -1))                             \
-    IT(step(c, 60, 0)) IT(s = records(r, N)) IT(s = records(r, N + 1))                                                 \
-    IT(triangle(a, 6)) IT(triangle(a, 7)) IT(triangle((int *)m, N))                                                    \
-    IT(s = local(LOCALS)) IT(s = local(LOCALS + 2))                                                                    \
-    IT((free(b), up(b, N), b = zeros(N * 4))) IT((free(b), s = sum(b, 0, N), b = zeros(N * 4)))                        \
-    IT(bytes((unsigned char *)c, (unsigned char *)a, N)) IT(bytes((unsigned char *)c, (unsigned char *)a, N + 2))      \
-    IT(bytes((unsigned char *)a, (unsigned char *)c, N + 9))                                                           \
-    IT(crossed(a, b, N)) IT(crossed(a, b, N + 1)) IT(crossed(a, b - 1, N))                                             \
-    IT(pointer(a, N)) IT(pointer(a, N + 2)) IT(pointer(a, 0))                                                          \
-    IT(odd(c, 36)) IT(odd(c, 40)) IT(odd(c - 3, 30)) IT(globals(GLOBALS)) IT(globals(GLOBALS + 2))
+    IT(up(a, N))                                                                                                       \
+    IT(up(a, N + 1)) IT(up(a, N + 5)) IT(s = sum(a, 0, N)) IT(s = sum(a, -1, N)) IT(s = sum(a, -3, N + 3)) IT(         \
+        s = sum(a, 5, 5)) IT(s = sum(a, 9, 3)) IT(down(h, N - 1, 0)) IT(down(h, N, 0)) IT(down(h, N - 1, -2))          \
+        IT(where(a, c, N)) IT(where(a, c, N + 1)) IT((c[39] = 0,                                                       \
+                                                      where(a, c, N))) IT(s = find(c, N, 2)) IT(s = find(c, N + 3, 2)) \
+            IT((c[20] = 2, s = find(c, 100, 2))) IT((c[20] = 2, s = find(c, 4000000000u, 2))) IT(fill(m, N, N, N))     \
+                IT(fill(m, N, N + 1, N)) IT(fill(m, N + 1, 2, N)) IT(fill(m - 1, N, N, N)) IT(fill(m, 0, N, N)) IT(    \
+                    fill(m, N, 0, N)) IT(fill(m + N * (N - 1), N, N, -N)) IT(fill(m + N * (N - 2), N, N, -N))          \
+                    IT(multiply(m, m2, m3, N)) IT(multiply(m, m2, m3, N + 1)) IT(multiply(m, m2, m3 + 1, N)) IT(       \
+                        (free(m3), multiply(m, m2, m3, 9), m3 = NULL)) IT(stencil(b, a, N)) IT(stencil(b, a, N + 1))   \
+                        IT(stencil(b, a + 2, N - 2)) IT(stencil(b, a - 1, N)) IT(until((unsigned char *)c, 0))         \
+                            IT(until((unsigned char *)c + 20, 0)) IT(until((unsigned char *)c + 20, 30))               \
+                                IT(step(c, 10, 4)) IT(step(c, 11, 4)) IT(step(c + 39, N, -1)) IT(step(c + 38, N, -1))  \
+                                    IT(step(c, 60, 0)) IT(s = records(r, N)) IT(s = records(r, N + 1))                 \
+                                        IT(triangle(a, 6)) IT(triangle(a, 7)) IT(triangle((int *)m, N))                \
+                                            IT(s = local(LOCALS)) IT(s = local(LOCALS + 2))                            \
+                                                IT((free(b), up(b, N), b = zeros(N * 4)))                              \
+                                                    IT((free(b), s = sum(b, 0, N), b = zeros(N * 4)))                  \
+                                                        IT(bytes((unsigned char *)c, (unsigned char *)a, N))           \
+                                                            IT(bytes((unsigned char *)c, (unsigned char *)a, N + 2))   \
+                                                                IT(bytes((unsigned char *)a, (unsigned char *)c,       \
+                                                                         N + 9)) IT(crossed(a, b, N))                  \
+                                                                    IT(crossed(a, b, N + 1)) IT(crossed(a, b - 1, N))  \
+                                                                        IT(pointer(a, N)) IT(pointer(a, N + 2))        \
+                                                                            IT(pointer(a, 0)) IT(odd(c, 36))           \
+                                                                                IT(odd(c, 40)) IT(odd(c - 3, 30))      \
+                                                                                    IT(globals(GLOBALS))               \
+                                                                                        IT(globals(GLOBALS + 2))
 
 static void run_table(void)
 {
@@ -129,12 +135,24 @@ static void run_drawn(int number)
     int *numbers = (int *)one + at;
     s = 0;
     switch (draw(0, 20)) {
-    case 0: up(numbers, (int)k); break;
-    case 1: s = sum(numbers, draw(-2, 2) * draw(0, 1), k); break;
-    case 2: down((short *)one, (int)(size / 2) - 1 + (int)off(), (int)-off() / 4); break;
-    case 3: where((int *)other, one, (int)k); break;
-    case 4: s = find(one, (unsigned)(size + (size_t)off()), draw(0, 1) ? 1 : 7); break;
-    case 5: fill((double *)one, (int)(size / 8 / (size_t)columns), (int)(columns + off()), (int)columns); break;
+    case 0:
+        up(numbers, (int)k);
+        break;
+    case 1:
+        s = sum(numbers, draw(-2, 2) * draw(0, 1), k);
+        break;
+    case 2:
+        down((short *)one, (int)(size / 2) - 1 + (int)off(), (int)-off() / 4);
+        break;
+    case 3:
+        where((int *)other, one, (int)k);
+        break;
+    case 4:
+        s = find(one, (unsigned)(size + (size_t)off()), draw(0, 1) ? 1 : 7);
+        break;
+    case 5:
+        fill((double *)one, (int)(size / 8 / (size_t)columns), (int)(columns + off()), (int)columns);
+        break;
     case 6: {
         int side = (int)draw(0, 12);
         while ((size_t)side * (size_t)side * 8 > size)
@@ -142,25 +160,51 @@ static void run_drawn(int number)
         multiply((double *)one, (double *)other, (double *)other, side + (draw(0, 7) == 0));
         break;
     }
-    case 7: stencil((int *)other, numbers, (size_t)k); break;
-    case 8: until((unsigned char *)one + draw(0, (long)size), (size_t)draw(0, 60)); break;
-    case 9: step(by < 0 ? one + size - 1 : one, (long)size / (by < 0 ? -by : by + (by == 0)) + off(), by); break;
-    case 10: s = records((struct record *)one, (int)(size / sizeof(struct record)) + (int)off() / 2); break;
-    case 11: bytes((unsigned char *)one, (unsigned char *)other, (int)size + (int)off()); break;
-    case 12: bytes((unsigned char *)one + draw(0, 40), (unsigned char *)one, (int)size - 40 + (int)off()); break;
-    case 13: crossed(numbers, (int *)other, (int)k); break;
-    case 14: pointer(numbers, (int)k); break;
-    case 15: odd(one, (int)size - 3 + (int)off()); break;
-    case 16: prefix((long *)one, (long)size / 8 + off() / 2); break;
-    case 17: globals(GLOBALS + (int)off() / 3); break;
-    case 18: s = wrapped(one, (unsigned char)draw(0, 255), (unsigned char)draw(0, 255)); break;
+    case 7:
+        stencil((int *)other, numbers, (size_t)k);
+        break;
+    case 8:
+        until((unsigned char *)one + draw(0, (long)size), (size_t)draw(0, 60));
+        break;
+    case 9:
+        step(by < 0 ? one + size - 1 : one, (long)size / (by < 0 ? -by : by + (by == 0)) + off(), by);
+        break;
+    case 10:
+        s = records((struct record *)one, (int)(size / sizeof(struct record)) + (int)off() / 2);
+        break;
+    case 11:
+        bytes((unsigned char *)one, (unsigned char *)other, (int)size + (int)off());
+        break;
+    case 12:
+        bytes((unsigned char *)one + draw(0, 40), (unsigned char *)one, (int)size - 40 + (int)off());
+        break;
+    case 13:
+        crossed(numbers, (int *)other, (int)k);
+        break;
+    case 14:
+        pointer(numbers, (int)k);
+        break;
+    case 15:
+        odd(one, (int)size - 3 + (int)off());
+        break;
+    case 16:
+        prefix((long *)one, (long)size / 8 + off() / 2);
+        break;
+    case 17:
+        globals(GLOBALS + (int)off() / 3);
+        break;
+    case 18:
+        s = wrapped(one, (unsigned char)draw(0, 255), (unsigned char)draw(0, 255));
+        break;
     case 19:
         while ((size_t)(3 * rows * columns * 8) > size)
             rows > columns ? rows-- : columns--;
         if (rows > 0 && columns > 0)
             twice((double *)one, 3, rows, columns + (draw(0, 5) == 0));
         break;
-    case 20: again(numbers, (int)k, (int)draw(0, 40)); break;
+    case 20:
+        again(numbers, (int)k, (int)draw(0, 40));
+        break;
     }
     unsigned long all = 0;
     if (hole >= 0)
