@@ -2,10 +2,12 @@
 
 GLOSSARY.md says what they mean here. The old ones stand in this table, in CHANGELOG.md, which says
 what was, and in proved sources, of which each changed byte is proved again.
+
+Pages for users have a clause where English has a noun no more often than the table of habits says.
 """
 
 import re
-from typing import Dict, Iterator, List, Tuple
+from typing import Dict, Iterator, List, NamedTuple, Tuple
 
 from files import TOP
 
@@ -36,6 +38,43 @@ UNREAD = re.compile(
     r"|crates/\w+/(?:src|specs|proofs|mutants)/"
 )
 PROVED = re.compile(r"crates/asan_laws/")
+
+
+class Habit(NamedTuple):
+    """What not to write, what to write, and how often it still stands in the pages for users."""
+
+    pattern: str
+    instead: str
+    at_most: int
+
+
+# Who takes one away lowers its number.
+HABITS = [
+    Habit(r"what (?:is|are|was|were)", "a noun", 0),
+    Habit(r"what becomes of", "a noun", 0),
+    Habit(r"but for", "except", 0),
+    Habit(r"(?:of|by) which nobody", "unknown", 0),
+    Habit(r"likewise", "the same", 0),
+    Habit(r"(?:is|are|was|were) no", "is not a, or has no", 0),
+    Habit(r"so many|as many as", "at most N", 0),
+    Habit(r"(?:built|compiled|linked) so", "built this way", 0),
+    Habit(r"not everything was seen", "incomplete", 0),
+    Habit(r"handed out again", "reused", 0),
+]
+# The pages for users; headings and code are left out.
+FOR_USERS = re.compile(r"(?:README|CONTRIBUTING)\.md|docs/(?!DECISIONS|CALLS)[\w-]+\.md|(?:\w+/)*man/[\w+-]+\.[15]")
+NOT_PROSE = re.compile(r"^```.*?^```|^(?: {4}|#|\.[A-Z]).*?$|`[^`]*`|\]\([^)]*\)", re.M | re.S)
+
+
+def habits_of(texts: List[str]) -> Iterator[Finding]:
+    """Goes over the habits that the pages have more often than their numbers say."""
+    text = "\n".join(NOT_PROSE.sub("", it) for it in texts)
+    for habit in HABITS:
+        pattern = rf"\b(?:{habit.pattern})\b".replace(" ", r"\s+")
+        count = len(re.findall(pattern, text, re.I))
+        if count != habit.at_most:
+            yield "tests/words.py", 1, f"pages for users have {count} times '{habit.pattern}', and {habit.at_most} " \
+                                       f"is its number: write {habit.instead}, or lower the number"
 
 
 def findings(files: List[str]) -> Iterator[Finding]:
