@@ -582,6 +582,9 @@ UNWINDS(_Unwind_Resume_or_Rethrow)
 
 #else
 
+/* Nobody says when the first one is created. */
+_Atomic bool threads_started = true;
+
 void threads_visit_waiting(void (*visit)(uintptr_t argument))
 {
     (void)visit;

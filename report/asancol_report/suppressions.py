@@ -18,9 +18,8 @@ FUNCTION, SOURCE, OBJECT = "fun", "src", "obj"
 CALLED_FROM, VIA_OBJECT, VIA_FUNCTION = "called_from_lib", "interceptor_via_lib", "interceptor_via_fun"
 CALL = "interceptor_name"
 OF_CALLS = (CALLED_FROM, VIA_OBJECT, VIA_FUNCTION, CALL)
-# AddressSanitizer's names for a class; and for one that nobody looks for here, which matches nothing.
-CLASS_NAMES = {"alloc_dealloc_mismatch": "alloc-dealloc-mismatch"}
-NOT_LOOKED_FOR = "odr_violation"
+# AddressSanitizer's names for a class.
+CLASS_NAMES = {"alloc_dealloc_mismatch": "alloc-dealloc-mismatch", "odr_violation": "odr-violation"}
 ANY_CLASS = "*"
 KNOWN_CLASSES = (*CLASSES, *CRASH_CLASSES)
 # A line that names the place of a report, frame by frame.
@@ -36,13 +35,13 @@ class Rule:
         self.line = line
         kind, colon, text = line.partition(":")
         self.kind = CLASS_NAMES.get(kind, kind)
-        kinds = (*KNOWN_CLASSES, ANY_CLASS, FUNCTION, SOURCE, OBJECT, *OF_CALLS, NOT_LOOKED_FOR)
+        kinds = (*KNOWN_CLASSES, ANY_CLASS, FUNCTION, SOURCE, OBJECT, *OF_CALLS)
         if not colon or self.kind not in kinds:
             raise ValueError(f"not {FORMS}")
         if not text:
             raise ValueError("the pattern is empty")
         self.search = pattern(text).search
-        self.is_used = self.kind == NOT_LOOKED_FOR
+        self.is_used = False
 
     def words(self, frame: Frame) -> Tuple[str, ...]:
         if self.kind in (FUNCTION, VIA_FUNCTION):
@@ -54,8 +53,6 @@ class Rule:
         return (frame.function, frame.file, frame.module)
 
     def matches(self, finding: Finding) -> bool:
-        if self.kind == NOT_LOOKED_FOR:
-            return False
         if self.kind == CALL:
             return bool(finding.call and self.search(finding.call))
         if self.kind not in finding.classes and (self.kind in KNOWN_CLASSES or finding.class_name in CRASH_CLASSES):

@@ -154,11 +154,10 @@ def run_has_a_bad_baseline(folder: str) -> None:
 
 @report_test
 def suppressions_of_address_sanitizer(folder: str) -> None:
-    """All kinds of lines that it knows are read. What nobody looks for here is said of none."""
+    """All kinds of lines that it knows are read. A class of its own name is ours."""
     one_trace(folder)
     report(folder, "--trace", "a.trace", "--json", "a.jsonl")
     write_text(f"{folder}/rules", "# ours\nodr_violation:^table$\ninterceptor_name:use\nleak:main\nfun:dr*p\n")
     ran = report(folder, "a.jsonl", "--suppressions", "rules")
     expect_in(ran.out, "no reports, 4 suppressed;", "matched nothing: interceptor_name:use",
-              "matched nothing: leak:main")
-    expect_not_in(ran.out, "odr_violation")
+              "matched nothing: leak:main", "matched nothing: odr_violation:^table$")

@@ -220,21 +220,21 @@ static void *nothing(void *argument)
     return argument;
 }
 
-int main(int count, char **words)
+int main(int count, char **argv)
 {
     const char *path = getenv("TAKEN");
     pthread_t thread;
     if (count > 4 && (pthread_create(&thread, NULL, nothing, NULL) != 0 || pthread_join(thread, NULL) != 0))
         return 2;
-    if (strcmp(words[1], "table") == 0)
+    if (strcmp(argv[1], "table") == 0)
         run_table();
     begin();
-    if (strcmp(words[1], "wild") == 0)
+    if (strcmp(argv[1], "wild") == 0)
         step(c, 9, 1L << 61);
     end(0);
     if (count > 3)
-        state = strtoul(words[2], NULL, 10);
-    for (int i = 0; count > 3 && i < atoi(words[3]); i++)
+        state = strtoul(argv[2], NULL, 10);
+    for (int i = 0; count > 3 && i < atoi(argv[3]); i++)
         run_drawn(i);
     FILE *file = path != NULL ? fopen(path, "w") : NULL;
     if (file != NULL && (fprintf(file, "%lu\n", taken) < 0 || fclose(file) != 0))
