@@ -7,6 +7,7 @@
 #include "process/halt.h"
 
 #include "base/self.h"
+#include "base/system.h"
 #include "process/halt_report.h"
 #include "process/process.h"
 #include "process/signals.h"
@@ -43,6 +44,27 @@ static void say_what(enum code code, unsigned width, uint64_t address, uintptr_t
     halt_report(whole != NULL ? whole : &alone, width, address);
 }
 
+/* The thread that ends the process, after the number of that process; 0: none. */
+static _Atomic uint64_t halting;
+
+/* Another thread that is here already ends the process: this one waits for that, as it might end the process first, and
+   well. But not for ever: a handler of the program may have taken that thread back from SIGABRT. */
+static bool is_first_to_halt(void)
+{
+    enum { SPANS = 500 };
+    const struct timespec span = {.tv_nsec = 10 * 1000 * 1000};
+    uint64_t process = (uint64_t)self_process() << 32, own = process | (uint32_t)system_gettid();
+    uint64_t before = atomic_load(&halting);
+    while (before >> 32 != process >> 32)
+        if (atomic_compare_exchange_weak(&halting, &before, own))
+            return true;
+    for (unsigned i = 0; before != own && i < SPANS; i++)
+        system_nanosleep(&span);
+    if (before != own)
+        atomic_store(&halt_is_on, false);
+    return false;
+}
+
 void halt_at(enum code code, unsigned width, uint64_t address, uintptr_t caller, struct access *whole)
 {
     if (!recorder_halts()) {
@@ -54,8 +76,7 @@ void halt_at(enum code code, unsigned width, uint64_t address, uintptr_t caller,
     /* In a child of vfork all memory is its parent's, which has not halted. */
     if (!recorder_is_own_process())
         signals_abort();
-    /* Another thread may be here already. This one then goes on, until that one has ended the process. */
-    if (!atomic_exchange(&halt_is_on, false))
+    if (!is_first_to_halt())
         return;
     if (recorder_begins_late() && recorder_begin_late())
         record(code, width, address, caller, whole);

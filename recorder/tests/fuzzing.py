@@ -79,11 +79,11 @@ def check_vfork(suite: Suite, folder: str, program: str) -> None:
         os.unlink(traces(folder)[0])
 
 
-def check_threads(suite: Suite, folder: str, program: str) -> None:
+def check_threads(suite: Suite, folder: str, program: str, name: str) -> None:
     """Many threads at fault at once: the process ends once, and its trace has the fault of one of them at least."""
     for halt in ("1", "2"):
         for _ in range(20):
-            ran = run([program, "threads"], folder, ASANCOL_HALT=halt, ASANCOL_TRACE="%p.trace")
+            ran = run([program, name], folder, ASANCOL_HALT=halt, ASANCOL_TRACE="%p.trace")
             expect((ran.returncode, ran.stderr.count(b"==ERROR: AddressSanitizer: ")), (ABORTED, 1), ran.stderr)
             status, texts, end = reports(suite.asancol, traces(folder)[0])
             expect((status, end.split()[0], 1 <= len(texts) <= 8), (1, "closed", True), texts)
@@ -243,10 +243,11 @@ def tests(suite: Suite, compiler: Compiler) -> None:
         ("child", check_child),
         ("callbacks", check_callbacks),
         ("vfork", check_vfork),
-        ("threads", check_threads),
         ("limit", check_limit),
     ):
         suite.test(f"{compiler} halt {name}", check, program)
+    for name in ("threads", "threads_that_exit"):
+        suite.test(f"{compiler} halt {name}", check_threads, program, name)
     suite.test(f"{compiler} asks for handlers", check_asking, compiler)
     if compiler.name != "clang":
         return

@@ -159,16 +159,32 @@ static void *fault_at_once(void *unused)
     return unused;
 }
 
-static void threads(void)
+static void *fault_and_exit(void *unused)
+{
+    fault_at_once(unused);
+    exit(0);
+}
+
+static void in_threads(void *run(void *))
 {
     enum { THREADS = 8 };
     pthread_t started[THREADS];
     pthread_barrier_init(&all_there, NULL, THREADS);
     for (int i = 0; i < THREADS; i++)
-        if (pthread_create(&started[i], NULL, fault_at_once, NULL) != 0)
+        if (pthread_create(&started[i], NULL, run, NULL) != 0)
             exit(9);
     for (int i = 0; i < THREADS; i++)
         pthread_join(started[i], NULL);
+}
+
+static void threads(void)
+{
+    in_threads(fault_at_once);
+}
+
+static void threads_that_exit(void)
+{
+    in_threads(fault_and_exit);
 }
 
 static void after_many(void)
@@ -191,7 +207,8 @@ int main(int count, char **argv)
         {"global", of_global},          {"by_function", by_function},
         {"poisoned", poisoned},         {"child", child},
         {"with_callback", with_callback}, {"with_old_callback", with_old_callback},
-        {"threads", threads},           {"after_many", after_many},
+        {"threads", threads},           {"threads_that_exit", threads_that_exit},
+        {"after_many", after_many},
         {"of_vfork", of_vfork},         {"cancelled", cancelled},
     };
     for (size_t i = 0; i < sizeof runs / sizeof *runs; i++)
