@@ -45,6 +45,12 @@ static void read_entry(struct object *object, const Elf64_Dyn *it)
     case DT_VERDEF:
         object->defined = place;
         break;
+    case DT_SYMBOLIC:
+        object->is_symbolic = true;
+        break;
+    case DT_FLAGS:
+        object->is_symbolic = object->is_symbolic || (it->d_un.d_val & DF_SYMBOLIC) != 0;
+        break;
     default:
         break;
     }
@@ -154,18 +160,35 @@ static uint32_t needed_version(const struct object *object, size_t number)
     }
 }
 
+/* The version in which an object with versions defines a symbol, or null. */
+static const Elf64_Verdef *defined_version(const struct object *object, size_t number)
+{
+    unsigned own = object->versions[number] & VERSION_NUMBER;
+    for (const Elf64_Verdef *it = object->defined;; it = after(it, it->vd_next)) {
+        if (it->vd_ndx == own)
+            return it;
+        if (it->vd_next == 0)
+            return NULL;
+    }
+}
+
+const char *object_version(const struct object *object, size_t number)
+{
+    bool has_versions = object->versions != NULL && object->defined != NULL;
+    const Elf64_Verdef *version = has_versions ? defined_version(object, number) : NULL;
+    if (version == NULL || (version->vd_flags & VER_FLG_BASE))
+        return NULL;
+    const Elf64_Verdaux *name = after(version, version->vd_aux);
+    return object->texts + name->vda_name;
+}
+
 /* Whether a symbol has this version. Where none is needed, any may be meant. */
 static bool has_version(const struct object *library, uint32_t number, uint32_t version)
 {
     if (version == 0 || library->versions == NULL || library->defined == NULL)
         return true;
-    unsigned own = library->versions[number] & VERSION_NUMBER;
-    for (const Elf64_Verdef *it = library->defined;; it = after(it, it->vd_next)) {
-        if (it->vd_ndx == own)
-            return it->vd_hash == version;
-        if (it->vd_next == 0)
-            return false;
-    }
+    const Elf64_Verdef *own = defined_version(library, number);
+    return own != NULL && own->vd_hash == version;
 }
 
 bool object_asks_for_new(const struct object *asking, size_t number, const struct object *library)

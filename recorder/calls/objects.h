@@ -24,6 +24,7 @@ struct object {
     size_t calls_size;
     const Elf64_Verneed *needed;
     const Elf64_Verdef *defined;
+    bool is_symbolic; /* it takes its own definitions itself */
 };
 
 /* Reads the entries of an object that is loaded there. What it does not have is null. */
@@ -32,6 +33,8 @@ struct object object_read(uintptr_t base, const Elf64_Dyn *entries);
 uint32_t object_hash(const char *name);
 /* The address of a name that the object defines, in the version that new programs get; or 0. */
 uintptr_t object_find(const struct object *object, const char *name);
+/* The version in which it defines the symbol of this number, or null. */
+const char *object_version(const struct object *object, size_t number);
 /* The place of a variable of a library that the linker has moved into the program, where all use it; or 0. */
 uintptr_t object_find_moved(const struct object *program, const char *name);
 /* Whether the symbol of this number, which `asking` needs, is to `library` what new programs get by its name. */

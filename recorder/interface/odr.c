@@ -13,8 +13,8 @@
 #include <stddef.h>
 #include <string.h>
 
-#include "base/memory.h"
 #include "calls/library.h"
+#include "calls/objects.h"
 #include "process/process.h"
 #include "process/settings.h"
 #include "shadow/globals.h"
@@ -40,39 +40,63 @@ static bool has_come(const char *name)
     return (atomic_fetch_or(&names[hash / BYTE % sizeof names], bit) & bit) != 0;
 }
 
-/* The name by which the loader knows what begins at an address; or null. Not of what may be defined often: that is
-   weak. */
-static const char *shown_name(uintptr_t address)
+/* Those that GCC gives to texts: they are often the same, and never shown. */
+static bool is_of_text(const char *name)
 {
-    const char *strings = NULL;
-    const ElfW(Sym) *symbols = NULL;
-    size_t size = 0;
+    static const char *const of_functions[] = {"__func__", "__FUNCTION__", "__PRETTY_FUNCTION__"};
+    for (size_t i = 0; i < sizeof of_functions / sizeof *of_functions; i++)
+        if (strcmp(name, of_functions[i]) == 0)
+            return true;
+    return name[0] == '*';
+}
+
+/* A symbol of the loader's. */
+struct shown {
+    const struct link_map *module;
+    const char *name;
+    uintptr_t taken; /* what its module gets by it */
+};
+
+static uintptr_t first_of(const char *name, const char *version)
+{
+    uintptr_t found = (uintptr_t)(version != NULL ? library.dlvsym(RTLD_DEFAULT, name, version)
+                                                  : library.dlsym(RTLD_DEFAULT, name));
+    if (found == 0)
+        library.dlerror(); /* the program has made no error */
+    return found;
+}
+
+/* What begins at an address. Not what may be defined often: that is weak. Nor what is the module's alone. */
+static bool is_shown(uintptr_t address, struct shown *shown)
+{
 #if __GLIBC_PREREQ(2, 35)
     struct dl_find_object found = {0};
     if (library._dl_find_object == NULL || library._dl_find_object((void *)address, &found) != 0
-        || found.dlfo_link_map == NULL)
-        return NULL;
-    for (const ElfW(Dyn) *it = found.dlfo_link_map->l_ld; it != NULL && it->d_tag != DT_NULL; it++) {
-        strings = it->d_tag == DT_STRTAB ? (const char *)it->d_un.d_ptr : strings;
-        symbols = it->d_tag == DT_SYMTAB ? (const ElfW(Sym) *)it->d_un.d_ptr : symbols;
-        size = it->d_tag == DT_STRSZ ? it->d_un.d_val : size;
-    }
+        || found.dlfo_link_map == NULL || found.dlfo_link_map->l_ld == NULL)
+        return false;
+    const struct object object = object_read(found.dlfo_link_map->l_addr, found.dlfo_link_map->l_ld);
+    const ElfW(Sym) *symbols = object.symbols;
     /* The strings come after the symbols, and after what tells how many these are. */
-    for (; symbols != NULL && (uintptr_t)(symbols + 1) <= (uintptr_t)strings; symbols++)
-        if (symbols->st_value == address - found.dlfo_link_map->l_addr && symbols->st_shndx != SHN_UNDEF
-            && symbols->st_info == ELF64_ST_INFO(STB_GLOBAL, STT_OBJECT) && symbols->st_name < size)
-            return strings + symbols->st_name;
+    for (size_t i = 0; symbols != NULL && (uintptr_t)&symbols[i + 1] <= (uintptr_t)object.texts; i++) {
+        if (symbols[i].st_value != address - object.base || symbols[i].st_shndx == SHN_UNDEF
+            || symbols[i].st_info != ELF64_ST_INFO(STB_GLOBAL, STT_OBJECT))
+            continue;
+        shown->module = found.dlfo_link_map;
+        shown->name = object.texts + symbols[i].st_name;
+        bool is_own = object.is_symbolic || ELF64_ST_VISIBILITY(symbols[i].st_other) != STV_DEFAULT;
+        shown->taken = is_own ? address : first_of(shown->name, object_version(&object, i));
+        return true;
+    }
 #else
-    (void)address, (void)strings, (void)symbols, (void)size;
+    (void)address, (void)shown;
 #endif
-    return NULL;
+    return false;
 }
 
 /* What is looked for: another definition of this one. */
 struct search {
     const struct global *global;
-    const char *name;   /* as the loader knows it; null: by its start or its indicator */
-    uintptr_t first;    /* the one that the loader takes */
+    uintptr_t other; /* where that begins; 0: by its start or its indicator */
     uintptr_t caller;
 };
 
@@ -89,17 +113,9 @@ static void note(const struct global *global, const struct global *other, uintpt
 static bool is_other(const struct search *search, const struct global *other)
 {
     const struct global *global = search->global;
-    if (search->name == NULL)
-        return global->odr_indicator != 0 ? other->odr_indicator == global->odr_indicator
-                                          : other->start == global->start;
-    if (other->start == global->start || (search->first != other->start && search->first != global->start))
-        return false;
-    char one[SIDE_NAME], second[SIDE_NAME];
-    if (!memory_read_text((uintptr_t)other->name, one, sizeof one)
-        || !memory_read_text((uintptr_t)global->name, second, sizeof second) || strcmp(one, second) != 0)
-        return false;
-    const char *shown = shown_name(other->start);
-    return shown != NULL && strcmp(shown, search->name) == 0;
+    if (search->other != 0)
+        return other->start == search->other;
+    return global->odr_indicator != 0 ? other->odr_indicator == global->odr_indicator : other->start == global->start;
 }
 
 static void visit(const struct global *other, void *with)
@@ -110,12 +126,22 @@ static void visit(const struct global *other, void *with)
         note(search->global, other, search->caller);
 }
 
-static uintptr_t first_of(const char *name)
+/* Looks for definitions of the name in other modules, of which one is what both modules get by it. */
+static void look_in_modules(struct search *search)
 {
-    uintptr_t found = (uintptr_t)library.dlsym(RTLD_DEFAULT, name);
-    if (found == 0)
-        library.dlerror(); /* the program has made no error */
-    return found;
+    struct shown shown, other;
+    if (!is_shown(search->global->start, &shown))
+        return;
+    const struct link_map *it = shown.module;
+    while (it->l_prev != NULL)
+        it = it->l_prev;
+    for (; it != NULL; it = it->l_next) {
+        const struct object object = object_read(it->l_addr, it->l_ld);
+        search->other = it != shown.module ? object_find(&object, shown.name) : 0;
+        bool is_taken = shown.taken == search->other || shown.taken == search->global->start;
+        if (search->other != 0 && is_taken && is_shown(search->other, &other) && other.taken == shown.taken)
+            globals_each(visit, search);
+    }
 }
 
 static void look_at(const struct global *global, uintptr_t caller)
@@ -130,9 +156,9 @@ static void look_at(const struct global *global, uintptr_t caller)
         if (is_first)
             return;
     } else if (shadow_is_clean(global->start, global->size_with_redzone)) {
-        if (!has_come(global->name) || (search.name = shown_name(global->start)) == NULL)
-            return;
-        search.first = first_of(search.name);
+        if (!is_of_text(global->name) && has_come(global->name))
+            look_in_modules(&search);
+        return;
     }
     globals_each(visit, &search);
 }

@@ -2,7 +2,7 @@
 Each is found where AddressSanitizer finds it, and not where it does not."""
 
 import re
-from typing import List, Sequence, Tuple
+from typing import Dict, List, Sequence, Tuple
 
 from asancol_report.by_recorder import FORMS
 from support import Compiler, Suite, expect, reports, run, side_of, write
@@ -51,6 +51,38 @@ def check_definitions(suite: Suite, folder: str, compiler: Compiler, size: int, 
     both = sorted([(40, "one.c:1"), (size * 4, "two.c:3")], key=lambda it: it[1])
     orders = [TWICE.format(*one, *other) for one, other in (both, reversed(both))]
     expect([it in orders for it in found], [True] * bool(said), found)
+
+
+# Two libraries that define a global: by which flags each of them does.
+PROTECTED = ("-DSEEN=__attribute__((visibility(\"protected\")))",)
+LIBRARIES: Dict[str, Tuple[Sequence[str], Sequence[str]]] = {
+    "default": ((), ()),
+    "symbolic": (("-Wl,-Bsymbolic",), ("-Wl,-Bsymbolic",)),
+    "first symbolic": (("-Wl,-Bsymbolic",), ()),
+    "second symbolic": ((), ("-Wl,-Bsymbolic",)),
+    "protected": (PROTECTED, PROTECTED),
+    "first protected": (PROTECTED, ()),
+    "second protected": ((), PROTECTED),
+    "versions": (("-Wl,--version-script=one.map",), ("-Wl,--version-script=two.map",)),
+    "one version": (("-Wl,--version-script=one.map",), ("-Wl,--version-script=one.map",)),
+    "weak": (("-DSEEN=__attribute__((weak))",), ()),
+}
+
+
+def check_libraries(suite: Suite, folder: str, compiler: Compiler, case: str) -> None:
+    """A global of two libraries is one if both have the same by its name, and else one of each."""
+    names = "global: shared; get_*; __odr*;"
+    write(folder, one_map=f"ONE {{ {names} }};\n", two_map=f"TWO {{ {names} }};\n",
+          library_c="#ifndef SEEN\n#define SEEN\n#endif\nSEEN int shared[10];\nint GET(void) { return shared[1]; }\n",
+          main_c="int get_one(void), get_two(void);\nint main(void) { return get_one() + get_two(); }\n")
+    for name, native, flags in (("recorded", False, ()), ("sanitized", True, ("-fsanitize=address",))):
+        for which, own in zip(("one", "two"), LIBRARIES[case]):
+            compiler.c(folder, ["library.c"], f"{folder}/lib{name}-{which}.so", "-fPIC", "-shared",
+                       f"-DGET=get_{which}", *own, *flags, native=native)
+        compiler.c(folder, ["main.c", f"./lib{name}-one.so", f"./lib{name}-two.so"], f"{folder}/{name}", *flags,
+                   native=native)
+    said, found = class_said(folder, "./sanitized", "detect_odr_violation=2"), found_in(folder, "./recorded")
+    expect([it.split(":")[0] for it in found], [said] * bool(said), f"{found}, {said}")
 
 
 FIRST = """
@@ -137,6 +169,8 @@ def tests(suite: Suite, compiler: Compiler) -> None:
                            (20, ("ASANCOL_ODR", 0))):
         suite.test(f"{compiler} two definitions: {size} {'='.join(map(str, settings))}", check_definitions, compiler,
                    size, settings)
+    for case in LIBRARIES:
+        suite.test(f"{compiler} two libraries: {case}", check_libraries, compiler, case)
     for level in (0, 1, 2):
         suite.test(f"{compiler} pairs of pointers: {level}", check_pairs, compiler, level)
         if compiler.cxx:
