@@ -49,6 +49,10 @@ void library_leave_unchecked(void)
 {
 }
 
+void library_go_without_lock(void)
+{
+}
+
 uint64_t library_generation(void)
 {
     return 1;
@@ -61,6 +65,7 @@ uint64_t library_generation(void)
 
 #include "calls/objects.h"
 #include "process/beginning.h"
+#include "process/other_threads.h"
 #include "base/system.h"
 
 /* Until they are found. */
@@ -268,6 +273,48 @@ bool library_has(const void *function)
 {
     return library.dl_iterate_phdr(look_for_library, (void *)(uintptr_t)function) == 1;
 }
+
+#if __GLIBC_PREREQ(2, 35)
+
+/* The loader's own, once another one has its place. */
+static int (*iterate)(int (*visit)(struct dl_phdr_info *, size_t, void *), void *with);
+
+static int iterate_alone(int (*visit)(struct dl_phdr_info *, size_t, void *), void *with)
+{
+    int answer = 0;
+    if (has_other_threads())
+        return iterate(visit, with);
+    for (const struct link_map *it = loaded(); it != NULL && answer == 0; it = it->l_next) {
+        struct dl_find_object found = {0};
+        if (library._dl_find_object(it->l_ld, &found) != 0)
+            continue;
+        const Elf64_Ehdr *header = found.dlfo_map_start;
+        if (memcmp(header->e_ident, ELFMAG, SELFMAG) != 0)
+            continue;
+        struct dl_phdr_info module = {.dlpi_addr = it->l_addr,
+                                      .dlpi_name = it->l_name,
+                                      .dlpi_phdr = (const void *)((uintptr_t)header + header->e_phoff),
+                                      .dlpi_phnum = header->e_phnum};
+        answer = visit(&module, sizeof module, with);
+    }
+    return answer;
+}
+
+void library_go_without_lock(void)
+{
+    if (iterate != NULL || library._dl_find_object == NULL || loaded() == NULL)
+        return;
+    iterate = library.dl_iterate_phdr;
+    library.dl_iterate_phdr = iterate_alone;
+}
+
+#else
+
+void library_go_without_lock(void)
+{
+}
+
+#endif
 
 static int count_modules(struct dl_phdr_info *module, size_t size, void *generation)
 {

@@ -88,6 +88,9 @@ void library_look_again(void);
 /* Another number once an object was loaded or unloaded, as the loader counts them. It takes the loader's lock for a
    moment. */
 uint64_t library_generation(void);
+/* In a child forked from threads: none of them that had the loader's lock gives it back. So as long as there is one
+   thread, dl_iterate_phdr of `library` takes none. */
+void library_go_without_lock(void);
 /* From now on no call is checked. */
 void library_leave_unchecked(void);
 

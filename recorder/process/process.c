@@ -34,6 +34,7 @@
 static struct {
     bool begins_late; /* by its settings */
     bool forked_inside; /* by a handler that had interrupted the allocator */
+    bool forked_alone;  /* there was one thread */
     int error_before_fork;
     struct settings settings;
     const char *pattern; /* of the trace's name, or null */
@@ -351,6 +352,7 @@ static void before_fork(void)
     /* Its lock is taken by who has none of ours. */
     uint64_t generation = library_generation();
     process.forked_inside = heap_is_entered();
+    process.forked_alone = library_is_alone();
     heap_lock();
     stream_lock();
     if (forks_recorded())
@@ -393,6 +395,8 @@ static void after_fork_in_child(void)
     struct disturbance before;
     errno = process.error_before_fork;
     self_note_process();
+    if (!process.forked_alone)
+        library_go_without_lock();
     heap_is_alone();
     thread_is_alone(self_process());
     walks_are_alone();

@@ -3,6 +3,7 @@
 #include <dlfcn.h>
 #include <errno.h>
 #include <fcntl.h>
+#include <link.h>
 #include <pthread.h>
 #include <sched.h>
 #include <setjmp.h>
@@ -413,6 +414,38 @@ static void forks_in_a_thread(void)
 
 static volatile sig_atomic_t made_by_handler;
 
+static int visit_slowly(struct dl_phdr_info *module, size_t size, void *unused)
+{
+    (void)module, (void)size, (void)unused;
+    for (volatile int i = 0; i < 100; i++)
+        ;
+    return 0;
+}
+
+static void *visit_modules(void *unused)
+{
+    for (;;)
+        dl_iterate_phdr(visit_slowly, unused);
+}
+
+/* The children have the loader's lock as another thread had it when they were forked. */
+static void forks_beside_the_loader(void)
+{
+    pthread_t thread;
+    for (int i = 0; i < 4; i++)
+        pthread_create(&thread, NULL, visit_modules, NULL);
+    for (int i = 0; i < 50; i++) {
+        int status = 0;
+        pid_t child = fork();
+        if (child == 0) {
+            alarm(20);
+            exit(fork() == 0 ? 0 : wait(&status) < 0 || status != 0);
+        }
+        if (waitpid(child, &status, 0) != child || status != 0)
+            _exit(1);
+    }
+}
+
 static void fork_on_signal(int number)
 {
     (void)number;
@@ -770,6 +803,7 @@ static const struct {
     LIFE(loses_its_trace), LIFE(loses_its_trace_at_the_end), LIFE(keeps_little), LIFE(fills_its_space),
     LIFE(ends_by_another_signal),
     LIFE(threads_exchange), LIFE(many_threads), LIFE(ends_with_threads), LIFE(forks), LIFE(forks_in_a_thread),
+    LIFE(forks_beside_the_loader),
     LIFE(forks_by_the_system), LIFE(forks_quietly), LIFE(clones), LIFE(vforks), LIFE(execs), LIFE(execs_in_vain),
     LIFE(spawns), LIFE(closes_all),
     LIFE(counts_descriptors), LIFE(closes_errors), LIFE(writes_past_a_limit), LIFE(fills_its_memory),

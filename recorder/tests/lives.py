@@ -94,6 +94,15 @@ def check_fork_in_a_thread(suite, folder, program):
     expect(len(seen) >= 11, True, "traces")
 
 
+def check_fork_beside_the_loader(suite, folder, program):
+    """A thread has the loader's lock while another one forks. The children, and theirs, end."""
+    ran = run([program, "forks_beside_the_loader"], folder, ASANCOL_TRACE="%p.trace", ASANCOL_WHERE="1",
+              ASANCOL_LEAKS="1")
+    expect((ran.returncode, ran.stderr), (0, b""))
+    ends = [reports(suite.asancol, f"{folder}/{name}")[1:] for name in traces(folder)]
+    expect([(texts, end.split()[0]) for texts, end in ends], [([], "closed")] * 101)
+
+
 def check_fork_in_handlers(suite, folder, program):
     ran = run([program, "forks_in_handlers"], folder, ASANCOL_TRACE="%p.trace")
     lines = ran.stderr.decode().splitlines()
@@ -255,6 +264,7 @@ def tests(suite, compiler):
     for name, (status, fate, wanted) in LIVES.items():
         suite.test(f"{compiler} {name}", check_life, program, name, status, fate, wanted)
     suite.test(f"{compiler} fork", check_fork, program)
+    suite.test(f"{compiler} fork beside the loader", check_fork_beside_the_loader, program)
     suite.long_test(f"{compiler} fork in a thread", check_fork_in_a_thread, program)
     suite.test(f"{compiler} fork in handlers", check_fork_in_handlers, program)
     suite.test(f"{compiler} exec", check_exec, program)
