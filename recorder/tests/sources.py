@@ -28,7 +28,7 @@ SAFE = {"__libc_single_threaded", "__libc_stack_end", "environment", "_dl_find_o
 ELSEWHERE = ("process/settings.o", "process/asan_options.o", "process/threads.o", "calls/", "heap/allocation.o",
              "base/own.o")
 AT_THE_START_OR_END = {
-    "interface/odr.o": {"dlsym", "dlerror"},
+    "interface/odr.o": {"dlsym", "dlvsym", "dlerror"},
     "leaks/leaks.o": {"dl_iterate_phdr"},
     "leaks/roots.o": {"dl_iterate_phdr", "_dl_get_tls_static_info", "_thread_db_sizeof_pthread"},
     "process/process.o": {"__register_atfork"},
