@@ -48,21 +48,36 @@ struct sum {
 static void add_to(struct sum *sum, const struct process *process, bool has_crashes)
 {
     struct outcome joined = segments_joined(process);
-    bool is_awaited = process->is_awaited && !has_crashes;
+    bool is_awaited = process->is_awaited && !has_crashes, has_halted = joined.has_halted && is_awaited;
+    uint64_t reports = has_halted ? 0 : outcome_reports(&joined);
     sum->events += joined.events;
-    sum->reports += outcome_reports(&joined);
-    sum->findings += joined.findings;
-    sum->with_reports += outcome_reports(&joined) > 0;
+    sum->reports += reports;
+    sum->findings += has_halted ? 0 : joined.findings;
+    sum->with_reports += reports > 0;
     sum->incomplete += !outcome_is_complete(&joined);
     sum->abrupt += joined.answer == UP_TO_THERE;
     sum->crashed += joined.is_crash && !is_awaited;
-    sum->awaited += joined.is_crash && is_awaited;
+    sum->awaited += is_awaited;
     sum->recorded += joined.has_checks;
     sum->marks += process_is_unseen(process);
     sum->unchecked += joined.answer == UNCHECKED;
 }
 
-/* If the command has ended well, a crash that a parent has waited for need not be shown: a test may want it. */
+/* Whether whoever has started it was recorded too, and seen to an end that is no crash. A script or a make that goes on
+   is none: it minds no status. */
+static bool has_good_parent(const struct process *process)
+{
+    const struct process *parent = process->parent > 0 ? process_of_peer(process->parent) : NULL;
+    for (; parent != NULL; parent = process_next_of_peer(parent)) {
+        struct outcome joined = segments_joined(parent);
+        if (joined.has_checks && outcome_is_complete(&joined) && joined.signal == 0)
+            return true;
+    }
+    return false;
+}
+
+/* If the command has ended well, a crash that a parent has waited for need not be shown: a test may want it. So it is
+   with the report at which a process has ended itself, if that parent knows of reports, too. */
 static void find_awaited(pid_t command, int status)
 {
     struct process *process;
@@ -72,7 +87,8 @@ static void find_awaited(pid_t command, int status)
         if (process->peer == command)
             continue;
         struct outcome joined = segments_joined(process);
-        process->is_awaited = joined.is_crash && outcome_is_complete(&joined) && !joined.is_ignored
+        bool is_death = joined.is_crash || (joined.has_halted && has_good_parent(process));
+        process->is_awaited = is_death && outcome_is_complete(&joined) && !joined.is_ignored
                               && death_was_awaited(process->peer);
         if (process->is_awaited)
             report_again(process);

@@ -24,7 +24,7 @@
     "  --format FORM            whose text: asancol or asan (asancol)\n" \
     "  --log-path PREFIX        write the text of asan to PREFIX.PID, too\n" \
     "  --live                   reports of a process when it ends, not all at the end\n" \
-    "  --crashes                crashes that a parent waited for, too\n" \
+    "  --crashes                crashes and halts that a parent waited for, too\n" \
     "  --source-root DIR        show files under DIR by their paths from there\n" \
     "  --color WHEN             colors: auto, always or never (auto)\n" \
     "  --full-stacks            print all frames of a stack, and whole names\n" \

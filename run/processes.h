@@ -78,7 +78,7 @@ struct process {
     char *kept_prefix;          /* where its traces are kept, without what differs */
     bool is_summed_up;          /* all of its segments have come, and the outcome was said */
     bool is_among_more;         /* it is counted, since lines of it could not be kept */
-    bool is_awaited; /* it has crashed, whoever has started it has waited for it, and the command has ended well */
+    bool is_awaited; /* it has crashed or halted, its parent has waited for it, and the command has ended well */
 };
 
 /* A process with a segment that has no descriptor yet. Each stays where it is. */

@@ -453,7 +453,7 @@ static void judge(struct segment *segment)
     if ((row->answer == UP_TO_THERE || row->answer == BEFORE_MAIN) && is_unheard)
         outcome->signal = unheard_signal(segment);
     outcome->is_crash = is_crash(outcome->signal) && !outcome->has_halted;
-    outcome->is_ignored = outcome->is_crash && ignores_deaths(segment->process->parent);
+    outcome->is_ignored = is_crash(outcome->signal) && ignores_deaths(segment->process->parent);
     say_why(segment, row->answer, row->why);
     outcome->is_settled = is_settled(segment, fate, facts);
 }

@@ -32,7 +32,7 @@ AWAITED = "its parent has waited for it, and the command ended with status 0"
 class Crash(Finding):
     """Crashes of one or more runs at one place. What differs from one to the other is that of the first one."""
 
-    __slots__ = ("signal", "end", "program", "reports", "is_awaited")
+    __slots__ = ("signal", "end", "program", "reports")
 
     def __init__(self, class_name: str, number: int, address: Optional[int], end: str, program: str,
                  stack: Stack) -> None:
@@ -42,12 +42,7 @@ class Crash(Finding):
         self.end = end
         self.program = program
         self.reports = 0  # of the first process, before it crashed
-        self.is_awaited = False  # its parent has waited for it, and the command has ended well all the same
         self.stack = stack or (Frame(module=program, note=NO_PLACE),)
-
-    @property
-    def counts(self) -> bool:
-        return super().counts and not self.is_awaited
 
     @property
     def own_stack(self) -> Stack:

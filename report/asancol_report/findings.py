@@ -131,6 +131,7 @@ class Tally(NamedTuple):
     after: int = 0  # of one without an event: how many events came before it
     number: int = 0  # and which of the findings of its recorder in that segment it is
     lost: Leaks = Leaks()  # of a leak: what all processes have lost there
+    is_awaited: bool = False  # each process has halted there, which its parent has waited for
 
     @property
     def moment(self) -> Tuple[int, int, bool, int]:
@@ -154,7 +155,7 @@ class Finding:
     __slots__ = ("class_name", "raw_class", "access", "size", "call", "address", "bad", "shadow", "rows", "stack",
                  "block",
                  "allocated", "freed", "threads", "fingerprint", "runs", "suppression", "is_known", "follows", "also",
-                 "ordinal", "by_recorder", "said", "is_forgotten", "allocator")
+                 "ordinal", "by_recorder", "said", "is_forgotten", "allocator", "is_awaited")
 
     def __init__(self, class_name: str, access: str, size: Optional[int], address: int, bad: Optional[int]) -> None:
         self.class_name = class_name
@@ -183,10 +184,11 @@ class Finding:
         self.said = ""  # what that is, in words
         self.is_forgotten = False  # the recorder keeps no notes on the block any more, which was freed long ago
         self.allocator = ""  # the function that has allocated the block
+        self.is_awaited = False  # parents have waited for all that ended there, and the command has ended well
 
     @property
     def counts(self) -> bool:
-        return not self.suppression and not self.is_known
+        return not self.suppression and not self.is_known and not self.is_awaited
 
     @property
     def is_consequence(self) -> bool:

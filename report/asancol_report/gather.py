@@ -246,6 +246,16 @@ class Gatherer:
         self.note_last()
         return new
 
+    def note_awaited(self) -> None:
+        """Notes which findings no process has but those that have halted there, which their parents have waited for."""
+        awaited = 0
+        for number, process in self.results.runs[self.run].processes.items():
+            awaited |= (process.has_halted and process.is_awaited) << number
+        for finding in self.results.places.values() if awaited else ():
+            seen = self.seen_in.get(id(finding), 0)
+            if seen and not seen & ~awaited:
+                finding.runs[self.run] = finding.runs[self.run]._replace(is_awaited=True)
+
     def note_last(self) -> None:
         """Gives the processes that a signal has ended their stacks."""
         processes = self.results.runs[self.run].processes

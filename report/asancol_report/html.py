@@ -236,7 +236,7 @@ class Page:
             parts.append(tag("span", escape("suppressed by " + finding.suppression), class_="pill"))
         if finding.is_known:
             parts.append(tag("span", "known from the baseline", class_="pill"))
-        if isinstance(finding, Crash) and finding.is_awaited:
+        if finding.is_awaited:
             parts.append(tag("span", AWAITED, class_="pill"))
         line = suppression_of(finding, self.sources.root)
         if line:

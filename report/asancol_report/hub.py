@@ -53,6 +53,7 @@ class Hub:
             raise Broken("--run: no run came on standard input")
         self.gatherer.finish()
         self.gatherer.finish_leaks()
+        self.gatherer.note_awaited()
 
     def read_packets(self, packets: socket.socket) -> None:
         with packets:

@@ -109,6 +109,7 @@ def finding_line(tally: Tally, run: int, rest: str) -> str:
     segment = f'"segment":{tally.segment},' if tally.segment > 1 else ""
     segment += f'"after":{tally.after},' if tally.after else ""
     segment += f'"number":{tally.number},' if tally.number else ""
+    segment += '"awaited":true,' if tally.is_awaited else ""
     return (f'{{"type":"finding","run":{run},"count":{tally.times},"processes":{tally.processes},'
             f'"process":{tally.process},"pid":{tally.pid},"event":{tally.event},{segment}{rest[1:]}')
 
@@ -409,7 +410,7 @@ def tally_of(entry: Entry) -> Tally:
     get = entry.get
     return Tally(number_of(get("count")), number_of(get("processes")), number_of(get("process")), number_of(get("pid")),
                  number_of(get("event")), number_of(get("segment")) or 1, number_of(get("after")),
-                 number_of(get("number")), lost_of(entry))
+                 number_of(get("number")), lost_of(entry), get("awaited") is True)
 
 
 def lost_of(entry: Entry) -> Leaks:

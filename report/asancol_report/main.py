@@ -252,6 +252,7 @@ class Report:
 
     def judge(self) -> None:
         self.results.place_crashes(self.sources)
+        self.results.judge_awaited()
         findings = self.results.all_places()
         self.suppressions.apply(findings)
         if self.baseline:

@@ -15,7 +15,7 @@ Text:
   --format FORM        whose text: asancol or asan (asancol)
   --log-path PREFIX    write the text of asan to PREFIX.PID, too
   --live               print the first report of each place when it comes
-  --crashes            crashes that a parent waited for, too
+  --crashes            crashes and halts that a parent waited for, too
   --source-root DIR    show files under DIR by their paths from there
   --color WHEN         colors: auto, always or never (auto)
   --full-stacks        print all frames of a stack, and whole names

@@ -37,7 +37,7 @@ class Process(NamedTuple):
     access: str = ""  # of that address: "load", "store" or "jump", if that is known
     threads: Threads = Threads()  # the one that signal has met, and those that have led to it
     findings: int = 0  # places that its recorder flags by itself
-    is_awaited: bool = False  # its parent has waited for it, and the command has ended well all the same
+    is_awaited: bool = False  # its parent has waited for its crash or halt, and the command has ended well all the same
     used_again: int = 0  # how many bytes of blocks it had handed out when freed memory came again; 0: it never has
     has_halted: bool = False  # it has ended itself at its first report, by ASANCOL_HALT
 
@@ -217,6 +217,11 @@ class Results:
         return self.crash_places.get((process.crash_class, process.fingerprint, line_of_crash(process.stack),
                                       self.is_awaited(process)))
 
+    def judge_awaited(self) -> None:
+        """Says of each finding whether parents have waited for all processes that ended there."""
+        for finding in self.places.values():
+            finding.is_awaited = not self.counts_awaited and all(it.is_awaited for it in finding.runs.values())
+
     def is_awaited(self, process: Process) -> bool:
         return process.is_awaited and not self.counts_awaited
 
@@ -225,7 +230,8 @@ class Results:
         before = finding.runs.get(run)
         if before is not None:
             tally = before._replace(times=before.times + tally.times, processes=before.processes + tally.processes,
-                                    lost=at_one_place([before.lost, tally.lost]))
+                                    lost=at_one_place([before.lost, tally.lost]),
+                                    is_awaited=before.is_awaited and tally.is_awaited)
         finding.runs[run] = tally
 
     def sightings(self, finding: Finding) -> Sightings:
@@ -334,7 +340,7 @@ class Results:
                 suppressed += finding.count
             elif finding.is_known:
                 known += 1
-            else:
+            elif finding.counts:
                 places += 1
                 reports += finding.count
                 by_recorder += finding.count if finding.by_recorder else 0
@@ -344,7 +350,8 @@ class Results:
                       sum(not it.is_complete for it in processes), sum(it.is_abrupt for it in processes),
                       sum(it.count for it in crashes if it.counts), sum(it.count for it in crashes if it.suppression),
                       sum(it.count for it in crashes if it.is_known and not it.suppression),
-                      sum(it.count for it in crashes if it.is_awaited and not (it.is_known or it.suppression)),
+                      sum(it.count for it in crashes if it.is_awaited and not (it.is_known or it.suppression))
+                      + sum(it.has_halted and self.is_awaited(it) for it in processes),
                       sum(len(run.troubles) for run in self.runs), self.unchecked_count(), by_recorder,
                       total(run.leaks for run in self.runs))
 

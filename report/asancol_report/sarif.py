@@ -124,7 +124,7 @@ def result(finding: Finding, results: Results, rule: int, ordinal: int, root: st
         made["provenance"] = {"firstDetectionTimeUtc": stamp(seen.first), "lastDetectionTimeUtc": stamp(seen.last)}
     if finding.suppression:
         made["suppressions"] = [{"kind": "external", "justification": whole_characters(finding.suppression)}]
-    elif isinstance(finding, Crash) and finding.is_awaited:
+    elif finding.is_awaited:
         made["suppressions"] = [{"kind": "external", "justification": AWAITED}]
     if finding.is_known is not None:
         made["baselineState"] = "unchanged" if finding.is_known else "new"

@@ -12,7 +12,7 @@ complete -c asancol-report -l html -r -F -d 'a page that needs no other file and
 complete -c asancol-report -l format -x -a 'asancol asan' -d 'whose text: asancol or asan'
 complete -c asancol-report -l log-path -x -d 'write the text of asan to PREFIX.PID, too'
 complete -c asancol-report -l live -d 'print the first report of each place when it comes'
-complete -c asancol-report -l crashes -d 'crashes that a parent waited for, too'
+complete -c asancol-report -l crashes -d 'crashes and halts that a parent waited for, too'
 complete -c asancol-report -l source-root -x -a '(__fish_complete_directories)' -d 'show files under DIR by their paths from there'
 complete -c asancol-report -l color -x -a 'auto always never' -d 'colors: auto, always or never'
 complete -c asancol-report -l full-stacks -d 'print all frames of a stack, and whole names'

@@ -170,6 +170,36 @@ def crash_that_was_waited_for_does_not_count(folder: str) -> None:
 
 
 @report_test
+def halt_that_was_waited_for_does_not_count(folder: str) -> None:
+    """Its report counts if another process has it, in this run or in another."""
+    program = build(folder)
+    halted = {"signal": 6, "fate": "no-close", "why": "ended by SIGABRT", "halted": True}
+    line = "asancol: 1 process ended by a signal that its parent waited for; --crashes shows it\n"
+
+    def ran(name: str, *awaited: bool) -> str:
+        feed = Feed(folder, "--json", name)
+        feed.begin(name)
+        for number, is_awaited in enumerate(awaited):
+            parts = of_program(program, [freed_block(program)], [0, 0, 0, 0, 1], ending=SIGNAL, signal=6)
+            more = {"awaited": True} if is_awaited else {}
+            feed.process(number, FREED + END, parts, **halted, **more)
+        return feed.end().out
+
+    out = ran("a", True)
+    expect_in(out, "asancol: no reports; 1 process, ", line)
+    expect_not_in(out, "ERROR", "SUMMARY")
+    expect(report(folder, "a").out, out, "read again")
+    expect_in(report(folder, "a", "--crashes").out, "asancol: 1 report at 1 place; 1 process, ")
+    expect_in(ran("b", True, False), "(2 times, 2 processes)", "asancol: 2 reports at 1 place; 2 processes, ", line)
+    ran("c", False)
+    for names in ("a", "c"), ("c", "a"):
+        expect_in(report(folder, *names).out, "asancol: 2 reports at 1 place; 2 processes", line)
+    document = json.loads(report(folder, "a", "--sarif", "-").out)
+    expect(["suppressions" in it for it in document["runs"][0]["results"]], [True], "SARIF")
+    expect(report(folder, "a", "--codequality", "-").out, "[]\n", "Code Quality")
+
+
+@report_test
 def crash_is_known_from_a_baseline(folder: str) -> None:
     feed_crashes(folder, "--json", "a.jsonl").end()
     ran = report(folder, "a.jsonl", "--baseline", "a.jsonl")

@@ -47,7 +47,7 @@ complete -c asancol-run -n '_asancol_run_takes option' -l log-file -r -F -d 'whe
 complete -c asancol-run -n '_asancol_run_takes option' -l format -x -a 'asancol asan' -d 'whose text: asancol or asan'
 complete -c asancol-run -n '_asancol_run_takes option' -l log-path -x -d 'write the text of asan to PREFIX.PID, too'
 complete -c asancol-run -n '_asancol_run_takes option' -l live -d 'reports of a process when it ends, not all at the end'
-complete -c asancol-run -n '_asancol_run_takes option' -l crashes -d 'crashes that a parent waited for, too'
+complete -c asancol-run -n '_asancol_run_takes option' -l crashes -d 'crashes and halts that a parent waited for, too'
 complete -c asancol-run -n '_asancol_run_takes option' -l source-root -x -a '(__fish_complete_directories)' -d 'show files under DIR by their paths from there'
 complete -c asancol-run -n '_asancol_run_takes option' -l color -x -a 'auto always never' -d 'colors: auto, always or never'
 complete -c asancol-run -n '_asancol_run_takes option' -l full-stacks -d 'print all frames of a stack, and whole names'

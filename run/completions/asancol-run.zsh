@@ -20,7 +20,7 @@ _arguments -S \
     '--format=[whose text: asancol or asan]:form:(asancol asan)' \
     '--log-path=[write the text of asan to PREFIX.PID, too]:file:_files' \
     '--live[reports of a process when it ends, not all at the end]' \
-    '--crashes[crashes that a parent waited for, too]' \
+    '--crashes[crashes and halts that a parent waited for, too]' \
     '--source-root=[show files under DIR by their paths from there]:folder:_files -/' \
     '--color=[colors: auto, always or never]:when:(auto always never)' \
     '--full-stacks[print all frames of a stack, and whole names]' \

@@ -5,7 +5,7 @@ import re
 import subprocess
 
 from leaks import PROGRAM, make
-from support import REPORT, SANITIZE, TOP, Suite, expect, expect_ran, leave_out, write_text
+from support import REPORT, SANITIZE, TOP, Suite, expect, expect_in, expect_ran, leave_out, write_text
 from testing.programs import call, compilers_there
 
 PAST = "heap-buffer-overflow: store of 1 byte"
@@ -70,6 +70,44 @@ const char *__asan_default_options(void) {
     return "alloc_dealloc_mismatch=0:quarantine_size_mb=3:strict_string_checks=1:symbolize=0:detect_leaks=DETECT"; }
 const char *__lsan_default_suppressions(void) { return "# known\\nleak:^lose$\\n"; }
 """
+
+
+DEATH_TEST = """
+#include <stdlib.h>
+#include <sys/wait.h>
+#include <unistd.h>
+int main(int count, char **words) {
+    int status = 0;
+    pid_t child = fork();
+    if (child == 0 || count > 2) {
+        char *block = malloc(3);
+        block[count + 2] = 1;
+        free(block);
+        _exit(0); }
+    (void)words;
+    return waitpid(child, &status, 0) != child || !WIFSIGNALED(status); }
+"""
+
+
+def check_death_test(suite: Suite, folder: str) -> None:
+    """A report at which a process has halted does not count, if its parent was recorded, has waited for it, and all
+    ended well, unless another process has it too. A shell that minds no status hides none."""
+    write_text(f"{folder}/d.c", DEATH_TEST)
+    call([f"{TOP}/recorder/asancol-cc", "-g", "-w", "d.c", "-o", "d"], cwd=folder, check=True)
+    halts = {"ASAN_OPTIONS": "halt_on_error=1", "ASANCOL_REPORT": REPORT}
+    line = "asancol: 1 process ended by a signal that its parent waited for; --crashes shows it\n"
+    result = f"{folder}/r"
+    ran = suite.run("--json", result, "--", f"{folder}/d", **halts)
+    expect_ran(ran, 0, "asancol: no reports; 2 processes, ", line, absent=[PAST, "SUMMARY: asancol"])
+    expect_in(suite.run_argv([REPORT, result]).out, "asancol: no reports; 2 processes, ", line)
+    expect_in(suite.run_argv([REPORT, "--crashes", result]).out, PAST, "asancol: 1 report at 1 place; 2 processes, ")
+    expect_ran(suite.run("--", f"{folder}/d", **halts), 0, "asancol: no reports; 2 processes, ", line)
+    expect_ran(suite.run("-q", "--", f"{folder}/d", **halts), 0, absent=["asancol: "])
+    expect_ran(suite.run("--crashes", "--", f"{folder}/d", **halts), 99, PAST, absent=["waited for"])
+    expect_ran(suite.run("--", "sh", "-c", f"{folder}/d; {folder}/d 2 3; true", **halts), 99, PAST)
+    expect_ran(suite.run("--", "sh", "-c", f"{suite.program} past; true", **halts), 99, PAST, absent=["waited for"])
+    expect_ran(suite.run("--", "sh", "-c", f"{folder}/d; exit 3", **halts), 99, PAST, absent=["waited for"])
+    expect_ran(suite.run("--", f"{folder}/d", ASANCOL_REPORT=REPORT), 99, PAST, absent=["waited for"])
 
 
 def check_functions(suite: Suite, folder: str) -> None:
@@ -137,6 +175,7 @@ def tests(suite: Suite) -> None:
         return
     for name, run in (
         ("statuses", check_statuses), ("named", check_named), ("leaks", check_leaks), ("functions", check_functions),
+        ("death test", check_death_test),
         ("mismatches", check_mismatches), ("mistakes", check_mistakes), ("same options", check_same_options),
     ):
         suite.test(f"asan: {name}", run)
