@@ -9,6 +9,7 @@
 #include <unistd.h>
 
 #include "common/asan_options.h"
+#include "common/distance.h"
 #include "common/format.h"
 #include "say.h"
 
@@ -161,16 +162,39 @@ static enum done take_word(struct options *options, const struct asan_word *word
     }
 }
 
-static void add_word(char **list, const struct asan_word *word)
+/* Names of options that are taken or said: what no report depends on is not meant. */
+static const char *const meant[] = {
+#define OPTION(name, fate, value, here) ASAN_IS_##fate != ASAN_IS_HARMLESS ? #name : "",
+#include "common/asan_options.def"
+#undef OPTION
+};
+
+/* The name that an unknown one is nearest to, if it is at most two letters away, and a third of it; or null. */
+static const char *meant_by(const struct asan_word *word)
+{
+    const char *nearest = NULL;
+    size_t least = 3;
+    for (size_t i = 0; i < sizeof meant / sizeof *meant && word->name_length < DISTANCE_ROOM; i++) {
+        size_t away = edit_distance(word->name, word->name_length, meant[i]);
+        if (away < least && 3 * away <= word->name_length) {
+            least = away;
+            nearest = meant[i];
+        }
+    }
+    return nearest;
+}
+
+static void add_word(char **list, const struct asan_word *word, const char *nearest)
 {
     size_t length = *list != NULL ? strlen(*list) : 0;
     char *more;
     if (length > MAX_LIST)
         return;
     int shown = word->value_length < 200 ? (int)word->value_length : 200;
-    if (asprintf(&more, "%s%s%.*s%s%.*s", length > 0 ? *list : "", length > 0 ? ", " : "",
+    if (asprintf(&more, "%s%s%.*s%s%.*s%s%s%s", length > 0 ? *list : "", length > 0 ? ", " : "",
                  word->name_length < 80 ? (int)word->name_length : 80, word->name, shown > 0 ? "=" : "", shown,
-                 word->value)
+                 word->value, nearest != NULL ? " (is " : "", nearest != NULL ? nearest : "",
+                 nearest != NULL ? " meant?)" : "")
         < 0)
         must(NULL);
     free(*list);
@@ -198,8 +222,10 @@ static void take_variable(struct options *options, const char *variable)
     char *lists[DONE_COUNT] = {NULL};
     struct asan_word word;
     while (at != NULL && asan_next(&at, &word))
-        if (word.name_length > 0)
-            add_word(&lists[take_word(options, &word)], &word);
+        if (word.name_length > 0) {
+            enum done done = take_word(options, &word);
+            add_word(&lists[done], &word, done == UNKNOWN ? meant_by(&word) : NULL);
+        }
     add_line(&options->asan_notes, variable, "without effect here: ", lists[WITHOUT_EFFECT],
              "unknown: ", lists[UNKNOWN]);
     add_line(&options->asan_taken, variable, "taken: ", lists[TAKEN],

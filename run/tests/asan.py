@@ -10,7 +10,7 @@ from testing.programs import call, compilers_there
 
 PAST = "heap-buffer-overflow: store of 1 byte"
 NOTE = ("asancol: ASAN_OPTIONS: without effect here: log_to_syslog=1, strict_string_checks=1; "
-        "unknown: halt_on_eror=1, x\n")
+        "unknown: halt_on_eror=1 (is halt_on_error meant?), x\n")
 
 
 def check_statuses(suite: Suite, folder: str) -> None:
