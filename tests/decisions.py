@@ -36,6 +36,7 @@ class Decisions(NamedTuple):
 
 ALL = [
     Decisions("asan_judgement_c", ["run/tests/judged.c", "run/status.c"], "run", has_table=True),
+    Decisions("asan_shades_c", ["recorder/tests/shades.c"], "recorder"),
 ]
 
 

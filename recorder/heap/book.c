@@ -21,6 +21,7 @@
 
 #include "base/platform.h"
 #include "heap/blocks.h"
+#include "heap/paint.h"
 #include "heap/retiring.h"
 #include "shadow/shadow.h"
 #include "stream/record.h"
@@ -237,17 +238,6 @@ static bool state_released(uintptr_t granule)
     if (entry != NULL)
         entry->is_stale = true;
     return entry != NULL;
-}
-
-/* The byte that a block leaves in a granule of its span. */
-static unsigned char byte_of(uintptr_t start, size_t size, bool is_held, uintptr_t granule)
-{
-    uintptr_t end = start + size;
-    if (granule < start || granule >= end)
-        return SHADE_HEAP;
-    if (is_held)
-        return SHADE_FREED;
-    return end - granule < GRANULE ? (unsigned char)(end - granule) : 0;
 }
 
 /* Whether the checker has this byte already, as a block has left it there. */

@@ -78,4 +78,15 @@ static inline void paint_released(uintptr_t address, size_t size)
     paint_granules(block_shadow(address) - RED_GRANULES, span_bytes(size) / GRANULE, SHADE_HEAP);
 }
 
+/* The byte that a block leaves in a granule of its span. */
+static inline unsigned char byte_of(uintptr_t start, size_t size, bool is_held, uintptr_t granule)
+{
+    uintptr_t end = start + size;
+    if (granule < start || granule >= end)
+        return SHADE_HEAP;
+    if (is_held)
+        return SHADE_FREED;
+    return end - granule < GRANULE ? (unsigned char)(end - granule) : 0;
+}
+
 #endif

@@ -1,0 +1,139 @@
+/* What the recorder's shadow says and becomes, beside crates/asan_shades, which proves that it is what the collector
+   makes of the events: accesses by each shadow byte, all small regions and blocks on small memory, and drawn ones.
+   Prints how many answers were compared, and the first that differ; the status is 1 if one does. */
+#define _GNU_SOURCE
+#include <stdbool.h>
+#include <stdint.h>
+#include <stdio.h>
+#include <string.h>
+
+enum { MOST_GRANULES = 1 << 12 };
+static unsigned char memory[MOST_GRANULES + 64];
+/* Address 0 has the first byte of it. */
+#define SHADOW_START ((uint64_t)(uintptr_t)memory)
+
+#include "shadow/shadow.c"
+
+#include "heap/paint.h"
+
+bool asan_shades_is_bad(uint8_t shadow, uint64_t at, uint8_t width);
+uint8_t asan_shades_poisoned(uint8_t code, uint64_t at, uint64_t end, uint8_t shadow, uint64_t granule);
+uint8_t asan_shades_unpoisoned(uint64_t at, uint64_t end, uint8_t shadow, uint64_t granule);
+uint8_t asan_shades_left_byte(uint64_t at, uint64_t size, bool is_held, uint8_t shadow, uint64_t granule);
+
+static unsigned long compared, differ;
+
+static void compare(const char *what, uint64_t at, uint64_t size, uint64_t granule, unsigned here, unsigned proved)
+{
+    compared++;
+    if (here != proved && differ++ < 10)
+        printf("%s at %#jx of %ju bytes, granule %ju: %02x, and proved %02x\n", what, (uintmax_t)at, (uintmax_t)size,
+               (uintmax_t)granule, here, proved);
+}
+
+/* Bytes that a shadow has: those of whole and of partial granules, and codes. */
+static const unsigned char shades[] = {0, 1, 2, 3, 4, 5, 6, 7, SHADE_USER, SHADE_HEAP, SHADE_FREED, 0x80, 0xff};
+enum { SHADES = sizeof shades };
+
+static void compare_accesses(void)
+{
+    for (unsigned shade = 0; shade < 256; shade++)
+        for (uint64_t at = 0; at < 2 * GRANULE && (shade < GRANULE || shade >= 0x80); at++)
+            for (unsigned width = 1; width <= GRANULE; width *= 2) {
+                memory[0] = memory[1] = (unsigned char)shade;
+                compare("access", at, width, at / GRANULE, shadow_is_bad(at, width),
+                        asan_shades_is_bad((uint8_t)shade, at, (uint8_t)width));
+            }
+}
+
+/* Of so many granules. */
+static void compare_region(const unsigned char *before, size_t count, uint64_t at, uint64_t size)
+{
+    memcpy(memory, before, count);
+    shadow_poison(at, size, SHADE_USER);
+    for (uint64_t i = 0; i < count; i++)
+        compare("poison", at, size, i, memory[i], asan_shades_poisoned(SHADE_USER, at, at + size, before[i], i));
+    memcpy(memory, before, count);
+    shadow_unpoison(at, size);
+    for (uint64_t i = 0; i < count; i++)
+        compare("unpoison", at, size, i, memory[i], asan_shades_unpoisoned(at, at + size, before[i], i));
+}
+
+/* Each region of three granules with any three bytes. */
+static void compare_small_regions(void)
+{
+    enum { COUNT = 3, END = COUNT * GRANULE };
+    for (unsigned drawn = 0; drawn < SHADES * SHADES * SHADES; drawn++) {
+        unsigned char before[COUNT] = {shades[drawn % SHADES], shades[drawn / SHADES % SHADES],
+                                       shades[drawn / SHADES / SHADES]};
+        for (uint64_t at = 0; at < END; at++)
+            for (uint64_t size = 0; size <= END - at; size++)
+                compare_region(before, COUNT, at, size);
+    }
+}
+
+static void compare_block(const unsigned char *before, size_t count, uint64_t at, uint64_t size)
+{
+    memcpy(memory, before, count);
+    paint_redzones(at, size);
+    paint_live(at, size);
+    for (uint64_t i = 0; i < count; i++)
+        compare("malloc", at, size, i, memory[i], asan_shades_left_byte(at, size, false, before[i], i));
+    paint_held(at, size);
+    for (uint64_t i = 0; i < count; i++) {
+        compare("free", at, size, i, memory[i], asan_shades_left_byte(at, size, true, before[i], i));
+        uint64_t granule = i * GRANULE;
+        if (granule < at - REDZONE || granule >= at - REDZONE + span_bytes(size))
+            continue; /* byte_of is of a granule of the block's span */
+        for (unsigned is_held = 0; is_held < 2; is_held++)
+            compare("byte_of", at, size, i, byte_of(at, size, is_held, granule),
+                    asan_shades_left_byte(at, size, is_held, before[i], i));
+    }
+    paint_released(at, size);
+    for (uint64_t i = 0; i < count; i++) {
+        bool is_in_span = i * GRANULE >= at - REDZONE && i * GRANULE < at - REDZONE + span_bytes(size);
+        compare("release", at, size, i, memory[i], is_in_span ? SHADE_HEAP : before[i]);
+    }
+}
+
+static void compare_small_blocks(void)
+{
+    enum { COUNT = 64, ROOM = COUNT * GRANULE };
+    for (unsigned drawn = 0; drawn < SHADES; drawn++) {
+        unsigned char before[COUNT];
+        memset(before, shades[drawn], sizeof before);
+        for (uint64_t at = REDZONE; at < REDZONE + 4 * GRANULE; at += GRANULE)
+            for (uint64_t size = 0; at - REDZONE + span_bytes(size) <= ROOM; size++)
+                compare_block(before, COUNT, at, size);
+    }
+}
+
+static uint64_t draw(uint64_t below)
+{
+    static uint64_t state = 88172645463325252;
+    state ^= state << 13, state ^= state >> 7, state ^= state << 17;
+    return state % below;
+}
+
+static void compare_drawn(void)
+{
+    static unsigned char before[MOST_GRANULES];
+    for (unsigned round = 0; round < 400; round++) {
+        for (size_t i = 0; i < MOST_GRANULES; i++)
+            before[i] = draw(3) != 0 ? 0 : shades[draw(SHADES)];
+        uint64_t at = draw(MOST_GRANULES * GRANULE), start = REDZONE + draw(MOST_GRANULES / 2) * GRANULE;
+        compare_region(before, MOST_GRANULES, at, draw(MOST_GRANULES * GRANULE - at + 1));
+        uint64_t room = MOST_GRANULES * GRANULE - start - 2 * REDZONE;
+        compare_block(before, MOST_GRANULES, start, draw(room));
+    }
+}
+
+int main(void)
+{
+    compare_accesses();
+    compare_small_regions();
+    compare_small_blocks();
+    compare_drawn();
+    printf("%lu of %lu answers differ from the proved ones\n", differ, compared);
+    return differ != 0;
+}
