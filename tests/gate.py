@@ -62,15 +62,16 @@ PROVED = re.compile(r"rt: (\w+) (?:proved$|is kept: )")
 TEST = re.compile(r"#\s*\[\s*test\b")
 
 
+def lines_listed() -> Dict[str, str]:
+    """Returns each crate's line of crates.txt, in the order of the file."""
+    with open(f"{TOP}/crates.txt", encoding="utf-8") as file:
+        lines = [line.partition("#")[0].strip() for line in file]
+    return {line.partition(":")[0].split()[0]: line for line in lines if ":" in line}
+
+
 def crates_listed() -> Dict[str, List[str]]:
     """Returns each crate of crates.txt with the names after its colon, in the order of the file."""
-    listed = {}
-    with open(f"{TOP}/crates.txt", encoding="utf-8") as file:
-        for line in file:
-            name, colon, below = line.partition("#")[0].partition(":")
-            if colon:
-                listed[name.split()[0]] = below.split()
-    return listed
+    return {name: line.partition(":")[2].split() for name, line in lines_listed().items()}
 
 
 def lowest_first(listed: Dict[str, List[str]]) -> List[str]:

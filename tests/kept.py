@@ -23,10 +23,10 @@ SCRIPTS = ("bodies", "edits", "kept", "rooms", "rounds", "verdicts", "mutants")
 LONGEST = 30 * 24 * 3600
 
 
-def sum_of(top: str, files: List[str]) -> str:
-    """Returns a sum of the toolchain, the scripts, and these files below `top`."""
+def sum_of(top: str, lines: List[str], files: List[str]) -> str:
+    """Returns a sum of the toolchain, the scripts, these lines, and these files below `top`."""
     version = subprocess.run(["rt", "version"], stdout=subprocess.PIPE, text=True, check=True)
-    total = hashlib.sha256(version.stdout.encode())
+    total = hashlib.sha256(repr((version.stdout, lines)).encode())
     for path in [*(f"{TOP}/tests/{it}.py" for it in SCRIPTS), *files]:
         name = os.path.relpath(path, top) if path.startswith(f"{top}/") else os.path.basename(path)
         with open(path, "rb") as file:

@@ -66,8 +66,11 @@ class Crate:
         self.is_over = threading.Event()
 
     def sum_now(self) -> str:
-        """Returns a sum of all that a check of the crate reads."""
-        return kept.sum_of(TOP, [*self.base.files(), f"{TOP}/crates.txt"])
+        """Returns a sum of all that a check of the crate reads: of crates.txt its line, and those of
+        the crates below it."""
+        listed = gate.lines_listed()
+        lines = sorted(listed[it] for it in [self.name, *self.base.below])
+        return kept.sum_of(TOP, lines, self.base.files())
 
     def rests_on(self) -> Optional[List[str]]:
         """Returns paths of the functions that those to be tried call, or None if an edit is of more

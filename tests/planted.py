@@ -1,8 +1,9 @@
 #!/usr/bin/env python3
 """Tries mutants.py on edits of which it is known what has to be said of them.
 
-They are planted in a copy of the crate asan_units, in a temporary folder. The last line is
-`N passed, M failed`. It takes a minute of one processor.
+They are planted in a copy of the crate asan_units, in a temporary folder. What is refused is kept, also
+once another crate stands on that one. The last line is `N passed, M failed`. It takes a minute of one
+processor.
 """
 
 import os
@@ -84,6 +85,8 @@ def main() -> int:
         for it in PLANTED:
             if it not in good:
                 os.remove(f"{room}/crates/{CRATE}/mutants/{it.name}.edit")
+        with open(f"{room}/crates.txt", "a", encoding="utf-8") as file:
+            file.write(f"another: {CRATE}\n")
         second = tried(room)
     for said, status, answers in ((first, 1, wanted), (second, 0, kept)):
         for name, answer in [*answers.items(), ("its status", status)]:
