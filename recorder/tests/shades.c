@@ -1,5 +1,6 @@
 /* What the recorder's shadow says and becomes, beside crates/asan_shades, which proves that it is what the collector
-   makes of the events: accesses by each shadow byte, all small regions and blocks on small memory, and drawn ones.
+   makes of the events: accesses by each shadow byte that a granule may have, all small regions and blocks on small
+   memory, and drawn ones. A region is clean if no access to one of its bytes is bad.
    Prints how many answers were compared, and the first that differ; the status is 1 if one does. */
 #define _GNU_SOURCE
 #include <stdbool.h>
@@ -46,10 +47,20 @@ static void compare_accesses(void)
             }
 }
 
+static void compare_first_bad(uint64_t at, uint64_t size)
+{
+    uint64_t end = at + size, first = at;
+    while (first < end && !asan_shades_is_bad(memory[first / GRANULE], first, 1))
+        first++;
+    compare("clean", at, size, at / GRANULE, shadow_is_clean(at, size), first == end);
+    compare("first bad", at, size, at / GRANULE, (unsigned)shadow_first_bad(at, size), (unsigned)first);
+}
+
 /* Of so many granules. */
 static void compare_region(const unsigned char *before, size_t count, uint64_t at, uint64_t size)
 {
     memcpy(memory, before, count);
+    compare_first_bad(at, size);
     shadow_poison(at, size, SHADE_USER);
     for (uint64_t i = 0; i < count; i++)
         compare("poison", at, size, i, memory[i], asan_shades_poisoned(SHADE_USER, at, at + size, before[i], i));
@@ -115,12 +126,28 @@ static uint64_t draw(uint64_t below)
     return state % below;
 }
 
+/* Memory where one granule in so many may be bad. */
+static void draw_memory(unsigned char *at, size_t count, uint64_t rareness)
+{
+    for (size_t i = 0; i < count; i++)
+        at[i] = draw(rareness) != 0 ? 0 : shades[draw(SHADES)];
+}
+
+static void compare_drawn_checks(void)
+{
+    enum { COUNT = 256 };
+    for (unsigned round = 0; round < 20000; round++) {
+        draw_memory(memory, COUNT, (uint64_t)2 << round % 10);
+        uint64_t at = draw(COUNT * GRANULE), size = draw((uint64_t)32 << round % 7);
+        compare_first_bad(at, size < COUNT * GRANULE - at ? size : COUNT * GRANULE - at);
+    }
+}
+
 static void compare_drawn(void)
 {
     static unsigned char before[MOST_GRANULES];
     for (unsigned round = 0; round < 400; round++) {
-        for (size_t i = 0; i < MOST_GRANULES; i++)
-            before[i] = draw(3) != 0 ? 0 : shades[draw(SHADES)];
+        draw_memory(before, MOST_GRANULES, 3);
         uint64_t at = draw(MOST_GRANULES * GRANULE), start = REDZONE + draw(MOST_GRANULES / 2) * GRANULE;
         compare_region(before, MOST_GRANULES, at, draw(MOST_GRANULES * GRANULE - at + 1));
         uint64_t room = MOST_GRANULES * GRANULE - start - 2 * REDZONE;
@@ -133,6 +160,7 @@ int main(void)
     compare_accesses();
     compare_small_regions();
     compare_small_blocks();
+    compare_drawn_checks();
     compare_drawn();
     printf("%lu of %lu answers differ from the proved ones\n", differ, compared);
     return differ != 0;
