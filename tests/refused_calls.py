@@ -40,9 +40,10 @@ class Calls(NamedTuple):
     error: int
 
 
-# clone and clone3, and accept and accept4.
+# clone and clone3, accept and accept4, and write and writev.
 THREAD_STARTS = Calls((56, 435), errno.EAGAIN)
 ACCEPTS = Calls((43, 288), errno.ECONNABORTED)
+WRITES = Calls((1, 20), errno.ENOSPC)
 
 
 class Ran(NamedTuple):

@@ -13,6 +13,10 @@ from program import (
 from testing import test
 from testing.traces import CLOSE, closed, free
 
+# Seconds. What comes at once comes within SOON, also on a busy machine. Waits that double for ever, from 16
+# microseconds on, are in the middle of one after the PAUSE, and end later than that.
+PAUSE, SOON = 5, 3
+
 
 @test
 def live_files(program):
@@ -121,6 +125,28 @@ def one_pipe_on_one_thread(program):
         Served.running.remove(running)
         wanted = end if "--live" in argv else report + second + end
         same(argv, (running.returncode, output), (1, wanted))
+
+
+@test
+def live_after_a_pause(program):
+    """A report is read soon though its process was silent for seconds before, and another one still is."""
+    served = Served(program, "--live", "--count", "2", "--workers", "1")
+    silent, peer = served.connect(), served.connect()
+    first, end = past_the_end(1).splitlines(keepends=True)
+    second, end = first.replace("#2", "#3"), end.replace("2 offset 36 reports 1", "3 offset 46 reports 2")
+    peer.sendall(PAST_THE_END[:-1])
+    same(served.argv, served.program.stdout.readline().decode(), first)
+    time.sleep(PAUSE)
+    began = time.monotonic()
+    peer.sendall(PAST_THE_END[-11:-1])
+    same(served.argv, served.program.stdout.readline().decode(), second)
+    seconds = time.monotonic() - began
+    holds(served.argv, seconds < SOON, f"it came after {seconds:.1f} s")
+    peer.sendall(CLOSE)
+    peer.close()
+    silent.sendall(SOUND)
+    silent.close()
+    served.expect(1, sound(0) + end)
 
 
 @test

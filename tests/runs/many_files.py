@@ -22,6 +22,17 @@ def as_many_processes_as_files(program):
 
 
 @test
+def each_number_of_files(program):
+    """One worker has them all, so its share has each size."""
+    program.leave_out_with_checks("it takes minutes")
+    names = [put(f"trace {i}", [PAST_THE_END, SOUND][i % 2]) for i in range(256)]
+    texts = [[past_the_end, sound][i % 2](i) for i in range(256)]
+    for count in range(1, 257):
+        argv = ["check", "--workers", "1", *names[:count]]
+        program.expect(argv, 1, "".join(texts[:count]))
+
+
+@test
 def limits_of_each_size(program):
     """A limit that no trace reaches changes nothing: powers of two and of ten, and their neighbors."""
     put("past", PAST_THE_END)

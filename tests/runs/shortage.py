@@ -4,8 +4,10 @@ import os
 import resource
 import signal
 
-from program import PAST_THE_END, holds, past_the_end, put, same
+import refused_calls
+from program import PAST_THE_END, holds, past_the_end, put, same, with_refused
 from testing import test
+from testing.traces import closed, free
 
 
 @test
@@ -27,6 +29,17 @@ def output_that_ends_early(program):
                 went_out = output.read()
             wanted = (1 if room == len(text) else 4, None, b"")
             same((argv, room), (ran, went_out), (wanted, text[:room]))
+
+
+@test
+def long_text_in_parts(program):
+    """The first part of a long text is out before the rest is written, so nobody waits for all of it."""
+    argv = ["check", put("frees", closed(*[free(0x2000)] * 1000))]
+    status, text, _ = program.run(argv)
+    same(argv, status, 1)
+    ran = with_refused(program, argv, refused_calls.WRITES, lambda number: number > 1)
+    same(argv, (ran.status, ran.faults), (4, b""))
+    holds(argv, 0 < len(ran.output) < len(text) and text.startswith(ran.output), f"{len(ran.output)} of {len(text)}")
 
 
 @test
