@@ -1,7 +1,7 @@
 #!/usr/bin/env python3
 """Compares decisions of the C programs with the proved ones.
 
-usage: tests/decisions.py
+usage: tests/decisions.py [--as-proved]
 
 The recorder and asancol-run are built without the toolchain. What they decide is proved of crates
 that no user's program has: their static libraries are built here, and a program in C calls both on
@@ -17,8 +17,9 @@ import shlex
 import subprocess
 import sys
 import tempfile
-from typing import List, NamedTuple
+from typing import List, NamedTuple, Tuple
 
+import rooms
 from files import TOP
 
 OPTIONS = ["-std=c11", "-O2", "-DPROVED", f"-iquote{TOP}"]
@@ -44,13 +45,34 @@ def ran(argv: List[str], folder: str) -> "subprocess.CompletedProcess[str]":
     return subprocess.run(argv, cwd=folder, stdout=subprocess.PIPE, stderr=subprocess.STDOUT, text=True)
 
 
-def why_not(one: Decisions, room: str) -> str:
+# A command, and the folder that it runs in.
+Step = Tuple[List[str], str]
+
+
+def by_rt(crate: str) -> Tuple[str, Step]:
+    """Returns a crate's static library, and what builds it and all below it."""
+    folder = f"{TOP}/crates/{crate}"
+    return f"{folder}/out/lib{crate}.a", (["rt", "lib"], folder)
+
+
+def as_proved(crate: str, room: str) -> Tuple[str, Step]:
+    """Returns a crate's static library, and what builds it over the libraries that are there."""
+    libraries = rooms.Libraries(room, [], None)
+    for name in rooms.crates_below(crate):
+        libraries.take(name)
+    base, kit, library = rooms.Base(room, crate), rooms.toolchain(), f"{room}/lib{crate}.a"
+    words = [*base.words(), "--jobs", "1", "--links", f"{crate}=", "--crate-type", "staticlib"]
+    words += ["--toolchain", f"{kit}/toolchain", "--backend", "llvm", "-o", library]
+    return library, ([f"{kit}/bin/rattle", "build", *words], base.folder)
+
+
+def why_not(one: Decisions, room: str, is_proved: bool) -> str:
     """Returns what is wrong, or nothing."""
-    library = f"{TOP}/crates/{one.crate}/out/lib{one.crate}.a"
-    program = f"{room}/{one.crate}"
+    library, step = as_proved(one.crate, room) if is_proved else by_rt(one.crate)
+    program = f"{room}/compare_{one.crate}"
     compiler = shlex.split(os.environ.get("CC", "cc"))
     built = [*compiler, *OPTIONS, f"-iquote{TOP}/{one.folder}", *one.sources, library, "-o", program]
-    steps = ((["rt", "lib"], f"{TOP}/crates/{one.crate}"), (built, TOP), ([program], TOP))
+    steps = (step, (built, TOP), ([program], TOP))
     printed = ""
     for argv, folder in steps:
         step = ran(argv, folder)
@@ -65,11 +87,14 @@ def why_not(one: Decisions, room: str) -> str:
     return "" if is_same else f"{table} has to be what {one.sources[0]} prints:\n{printed}"
 
 
-def main() -> int:
+def main(argv: List[str]) -> int:
+    if argv not in ([], ["--as-proved"]):
+        print("usage: tests/decisions.py [--as-proved]", file=sys.stderr)
+        return 2
     passed = failed = 0
     with tempfile.TemporaryDirectory(prefix="asancol-decisions-") as room:
         for one in ALL:
-            wrong = why_not(one, room)
+            wrong = why_not(one, room, bool(argv))
             passed += not wrong
             failed += bool(wrong)
             print(f"{one.crate}: {wrong or 'as proved'}", flush=True)
@@ -78,4 +103,4 @@ def main() -> int:
 
 
 if __name__ == "__main__":
-    sys.exit(main())
+    sys.exit(main(sys.argv[1:]))

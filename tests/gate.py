@@ -6,7 +6,8 @@ usage: tests/gate.py                      the gate
 
 The gate first runs `lint_tree.py`, in seconds, and ends there if that finds something. Then comes
 `rt ci`: it proves each crate from nothing and runs the tests. It builds the program with two
-compilers and leaves both. `decisions.py` compares decisions of the C programs with proved ones.
+compilers and leaves both. `decisions.py` compares decisions of the C programs with proved ones, over
+the libraries that `rt ci` leaves.
 `runs.py` runs both programs with words, and `fuzz.py` compares them with an oracle. Beside all of
 them `planted.py` and `mutants.py` try the mutants, and what they print comes at the end. A table
 shows the processor seconds of each crate (`costs.py` says how they are counted), and lines below it
@@ -30,7 +31,6 @@ import time
 from typing import Callable, Dict, List, Optional, Set, Tuple
 
 import costs
-import decisions
 
 TOP = os.path.dirname(os.path.dirname(os.path.abspath(__file__)))
 
@@ -43,7 +43,7 @@ FUZZ = ["tests/fuzz.py", "--draws", "4000", "--seed", "1"]
 # What comes after the lint, one after another, each with the part that it counts as.
 STEPS = [
     ("rt ci", ["rt", "ci"]),
-    ("decisions", [sys.executable, "tests/decisions.py"]),
+    ("decisions", [sys.executable, "tests/decisions.py", "--as-proved"]),
     ("runs", [sys.executable, "tests/runs.py", *PROGRAMS]),
     ("fuzz", [sys.executable, *FUZZ, *PROGRAMS]),
 ]
@@ -279,7 +279,7 @@ def steps_for(changed: Set[str], listed: Dict[str, List[str]]) -> List[Tuple[str
     if edited:
         steps.append((".", [sys.executable, "tests/mutants.py", *edited]))
     steps += [(f"crates/{it}", ["rt", "test"]) for it in above if has_tests(it)]
-    if any(it.crate in above for it in decisions.ALL):
+    if any(" staticlib:" in lines_listed()[it] for it in above):
         steps.append((".", [sys.executable, "tests/decisions.py"]))
     if "asancol" in above:
         steps.append(("crates/asancol", ["rt", "run", "--", "--version"]))
