@@ -22,7 +22,7 @@ def check_statuses(suite: Suite, folder: str) -> None:
     ran(7, PAST, option="--error-exitcode=7", ASAN_OPTIONS="exitcode=42")
     ran(43, PAST, ASAN_OPTIONS="exitcode=42", LSAN_OPTIONS="verbosity=1:exitcode='43'")
     ran(99, "ASAN_OPTIONS: without effect here: exitcode=300\n", ASAN_OPTIONS="exitcode=300")
-    ran(99, PAST, "ended by SIGABRT", ASAN_OPTIONS="halt_on_error=1")
+    ran(99, PAST, "ERROR: AddressSanitizer: heap-buffer-overflow on ", ASAN_OPTIONS="halt_on_error=1")
     ran(99, PAST, "all complete\n", ASAN_OPTIONS="halt_on_error=1", ASANCOL_HALT="0")
     ran(99, "1048576 bytes of freed memory are held back (--quarantine)", option="--full",
         ASAN_OPTIONS="quarantine_size_mb=1")
