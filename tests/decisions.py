@@ -75,9 +75,9 @@ def why_not(one: Decisions, room: str, is_proved: bool) -> str:
     steps = (step, (built, TOP), ([program], TOP))
     printed = ""
     for argv, folder in steps:
-        step = ran(argv, folder)
-        printed = step.stdout
-        if step.returncode:
+        done = ran(argv, folder)
+        printed = done.stdout
+        if done.returncode:
             return f"{' '.join(argv)}:\n{printed[-6000:]}"
     table = f"{TOP}/{os.path.splitext(one.sources[0])[0]}.txt"
     if not one.has_table:

@@ -50,6 +50,7 @@ static bool is_of_text(const char *name)
     return name[0] == '*';
 }
 
+#ifndef IS_STATIC
 /* A symbol of the loader's. */
 struct shown {
     const struct link_map *module;
@@ -92,6 +93,7 @@ static bool is_shown(uintptr_t address, struct shown *shown)
 #endif
     return false;
 }
+#endif
 
 /* What is looked for: another definition of this one. */
 struct search {
@@ -126,9 +128,13 @@ static void visit(const struct global *other, void *with)
         note(search->global, other, search->caller);
 }
 
-/* Looks for definitions of the name in other modules, of which one is what both modules get by it. */
+/* Looks for definitions of the name in other modules, of which one is what both modules get by it. A static program is
+   one module. */
 static void look_in_modules(struct search *search)
 {
+#ifdef IS_STATIC
+    (void)search;
+#else
     struct shown shown, other;
     if (!is_shown(search->global->start, &shown))
         return;
@@ -142,6 +148,7 @@ static void look_in_modules(struct search *search)
         if (search->other != 0 && is_taken && is_shown(search->other, &other) && other.taken == shown.taken)
             globals_each(visit, search);
     }
+#endif
 }
 
 static void look_at(const struct global *global, uintptr_t caller)

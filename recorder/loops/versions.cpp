@@ -10,7 +10,7 @@
        rest -> loop -> left of rest -> exit
    Both the fast loop and the rest are copies. The loop itself begins as it did, and is compiled as it would be alone,
    so that its reports are the same. The rest is only for what another thread, or a signal handler, makes bad meanwhile.
-   If the number of rounds is a small constant there is one strip: then `first` leads to `good`, and `done` to the exit. */
+   If the number of rounds is a small constant there is one strip: `first` leads to `good`, and `done` to the exit. */
 #include "loops/versions.hpp"
 
 #include <llvm/Analysis/ScalarEvolutionExpressions.h>

@@ -67,9 +67,9 @@ static const char **make_argv(const char *self)
         count++;
     size_t bytes = (count + FRONT + 1) * sizeof *front;
     long made = system_mmap(NULL, bytes, PROT_READ | PROT_WRITE, MAP_PRIVATE | MAP_ANONYMOUS, -1, 0);
-    const char **argv = (const char **)made;
-    if (made < 0 && made > -PAGE)
+    if (made <= 0)
         return NULL;
+    const char **argv = (const char **)made;
     memcpy(argv, front, sizeof front);
     argv[3] = self;
     for (size_t i = 0; i <= count; i++)

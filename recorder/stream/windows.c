@@ -19,7 +19,7 @@ unsigned char *windows_start(void)
         return NULL;
     system_madvise((void *)start, all, MADV_DONTDUMP); /* no debugger wants 5 GB of ours in a core */
     streams = (unsigned char *)start;
-    sides = streams + of_streams;
+    sides = (unsigned char *)(start + (long)of_streams);
     return streams;
 }
 

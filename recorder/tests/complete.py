@@ -591,7 +591,8 @@ def sound_tests(suite: Suite, compiler: Compiler) -> None:
     suite.test(f"{compiler} interface", check_interface, compiler)
     suite.test(f"{compiler} interface: kept blocks", check_kept_blocks, compiler)
     if compiler.has_sanitizer:
-        for argv in ([], ["double"], ["bad"]):
+        ways: List[List[str]] = [[], ["double"], ["bad"]]
+        for argv in ways:
             suite.test(f"{compiler} interface: told of reports {' '.join(argv)}", check_told, compiler, argv)
     suite.test(f"{compiler} growing container", check_growing, compiler)
     suite.test(f"{compiler} interface: hooks and other names", check_asked_for, compiler)

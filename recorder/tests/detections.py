@@ -142,7 +142,7 @@ PAIR_COUNT = 12
 def check_pairs(suite: Suite, folder: str, compiler: Compiler, level: int) -> None:
     """Blocks, globals, variables on the stack, and null: with the class and both lines."""
     write(folder, pairs_c=PAIRS)
-    flags = ("-fsanitize=pointer-compare,pointer-subtract",)
+    flags: Tuple[str, ...] = ("-fsanitize=pointer-compare,pointer-subtract",)
     if compiler.name == "clang":
         flags = ("-mllvm", "-asan-detect-invalid-pointer-pair")
     compiler.c(folder, ["pairs.c"], f"{folder}/recorded", "-O0", *flags)

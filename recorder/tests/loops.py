@@ -46,7 +46,8 @@ def ran(folder: str, suite: Suite, program: str, words: Sequence[str]) -> Tuple[
 def check_same(suite: Suite, folder: str, compiler: Compiler, flags: Sequence[str]) -> None:
     sources = f"{TESTS}/loops"
     compiler.c(folder, [f"{sources}/main.c"], "main.o", "-w", "-O1", "-c")
-    for program, option in (("with", [LOOPS]), ("without", [])):
+    ways: Tuple[Tuple[str, List[str]], ...] = (("with", [LOOPS]), ("without", []))
+    for program, option in ways:
         compiler.c(folder, [f"{sources}/loops.c", "main.o"], f"{folder}/{program}", "-w", "-pthread", *COUNTED, *flags,
                    *option)
     for words, least in RUNS:
@@ -81,7 +82,8 @@ def check_options(_suite: Suite, folder: str, compiler: Compiler) -> None:
     os.link(f"{RECORDER}/asancol-cc", f"{folder}/asancol-cc")
     with open(f"{folder}/any.c", "w", encoding="utf-8") as file:
         file.write("int sum(const int *a, int n) { int s = 0; for (int i = 0; i < n; i++) s += a[i]; return s; }\n")
-    for words, has_line in (([], False), (["-v"], True)):
+    verbose: Tuple[Tuple[List[str], bool], ...] = (([], False), (["-v"], True))
+    for words, has_line in verbose:
         made = run([f"{folder}/asancol-cc", LOOPS, "-O2", "-c", *words, "any.c"], folder, ASANCOL_CC=compiler.name)
         expect((made.returncode, b"loops are checked access by access" in made.stderr), (0, has_line), f"{words}")
 

@@ -9,7 +9,7 @@ from urllib.parse import quote
 
 from . import RELEASE
 from .classes import advice_for, what_is
-from .crashes import AWAITED, Crash
+from .crashes import AWAITED
 from .findings import Finding, Frame, own_frames, place_text, Stack, SYSTEM_LIBRARY
 from .json_lines import RECORDER
 from .options import Options

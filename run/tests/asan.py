@@ -3,6 +3,7 @@
 import glob
 import re
 import subprocess
+from typing import List, Tuple
 
 from leaks import PROGRAM, make
 from support import REPORT, SANITIZE, TOP, Suite, expect, expect_in, expect_ran, leave_out, write_text
@@ -76,7 +77,7 @@ DEATH_TEST = """
 #include <stdlib.h>
 #include <sys/wait.h>
 #include <unistd.h>
-int main(int count, char **words) {
+int main(int count, char **argv) {
     int status = 0;
     pid_t child = fork();
     if (child == 0 || count > 2) {
@@ -84,7 +85,7 @@ int main(int count, char **words) {
         block[count + 2] = 1;
         free(block);
         _exit(0); }
-    (void)words;
+    (void)argv;
     return waitpid(child, &status, 0) != child || !WIFSIGNALED(status); }
 """
 
@@ -134,12 +135,13 @@ def check_mismatches(suite: Suite, folder: str) -> None:
     write_text(f"{folder}/m.cpp", MISMATCHES)
     call([f"{TOP}/recorder/asancol-c++", "-g", "-w", "m.cpp", "-o", "m"], cwd=folder, check=True)
     family, size = "alloc-dealloc-mismatch: ", "new-delete-type-mismatch: "
-    for options, there, absent in (
+    rows: Tuple[Tuple[str, List[str], List[str]], ...] = (
         ("", [family, size], []),
         ("alloc_dealloc_mismatch=0", [size], [family]),
         ("new_delete_type_mismatch=no", [family], [size]),
         ("alloc_dealloc_mismatch=0:new_delete_type_mismatch=0", ["no reports; "], [family, size]),
-    ):
+    )
+    for options, there, absent in rows:
         ran = suite.run("--", f"{folder}/m", ASANCOL_REPORT=REPORT, ASAN_OPTIONS=options)
         expect_ran(ran, 99 if there[0] != "no reports; " else 0, *there, absent=[*absent, "not checked: fam"])
 

@@ -1,6 +1,7 @@
 /* Runs the loops of loops.c: those of the table below, or drawn ones, of which some go where they may not. It prints
    what they return and leave. With `threads` a second thread was there before. The number of tests of a loop that found
-   all good goes to the file that TAKEN names. usage: PROGRAM table | PROGRAM wild | PROGRAM drawn SEED COUNT [threads] */
+   all good goes to the file that TAKEN names.
+   usage: PROGRAM table | PROGRAM wild | PROGRAM drawn SEED COUNT [threads] */
 #include <pthread.h>
 #include <stdint.h>
 #include <stdio.h>
