@@ -29,6 +29,10 @@ UNREAD = ("not-checked", "read-failed")
 MAX_PROCESSES = 1 << 24
 
 
+def without_reports(process: Process) -> Process:
+    return process._replace(is_complete=False, is_abrupt=False, why="its reports did not arrive")
+
+
 class Hub:
     """The run whose packets come on a socket."""
 
@@ -40,6 +44,7 @@ class Hub:
         self.gatherer: Optional[Gatherer] = None
         self.number = 0
         self.lost: Set[int] = set()  # processes whose reports did not arrive
+        self.due: Set[int] = set()  # and those whose reports have to come with a later packet
         self.commands: Commands = {}
 
     def read(self, descriptor: int) -> None:
@@ -86,6 +91,9 @@ class Hub:
         return kind
 
     def end(self, entry: Dict[str, object]) -> None:
+        processes = self.results.runs[self.number].processes
+        for number in self.due:
+            processes[number] = without_reports(processes[number])
         end_run(self.results.runs[self.number], entry)
 
     def begin(self, entry: Dict[str, object]) -> None:
@@ -105,14 +113,16 @@ class Hub:
         segment = number_of(entry.get("segment"))
         processes = self.results.runs[self.number].processes
         before = processes.get(process.number)
-        if not descriptors and (segment or ((process.reports or process.findings) and before is None)):
+        if descriptors:
+            self.due.discard(process.number)
+        elif segment:
             self.lost.add(process.number)
+        elif (process.reports or process.findings) and before is None:
+            self.due.add(process.number)
         if before is not None:
             process = process._replace(address=before.address, access=before.access, crash=before.crash,
                                        stack=before.stack, threads=before.threads)
-        if process.number in self.lost:
-            process = process._replace(is_complete=False, is_abrupt=False, why="its reports did not arrive")
-        processes[process.number] = process
+        processes[process.number] = without_reports(process) if process.number in self.lost else process
         if not descriptors or self.gatherer is None or process.number >= MAX_PROCESSES:
             return
         files = min(number_of(entry.get("files")), len(descriptors) - 1)

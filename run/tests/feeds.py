@@ -6,7 +6,7 @@ import signal
 import time
 from typing import Any, Dict, List
 
-from support import FAKE_REPORT, RUN, SEGMENTED, Failure, Suite, expect, expect_ran, finish, read_packets
+from support import FAKE_REPORT, RUN, SEGMENTED, Failure, Suite, expect, expect_ran, finish, read_packets, write_text
 
 
 def check_packets(suite: Suite, folder: str) -> None:
@@ -39,16 +39,16 @@ def check_second_message(suite: Suite, folder: str) -> None:
 
 
 def check_words(suite: Suite, folder: str) -> None:
-    """Names are expanded, and reach the report from the root."""
-    with open(f"{folder}/known", "w", encoding="utf-8"):
-        pass
-    argv = ["--suppressions", "known", "--suppressions=known", "--baseline", f"{folder}/known", "--gen-suppressions"]
-    argv += ["--color", "never", "--live", "--source-root", ".", "--html", "of-%q{WHO}-%%", "-q"]
+    """Names are expanded, and reach the report from the root. A file that is given twice reaches it once."""
+    for name in ("known", "more"):
+        write_text(f"{folder}/{name}", "")
+    argv = ["--suppressions", "known", "--suppressions=known", "--suppressions=more", "--baseline", f"{folder}/known"]
+    argv += ["--gen-suppressions", "--color", "never", "--live", "--source-root", ".", "--html", "of-%q{WHO}-%%", "-q"]
     packets = f"{folder}/packets"
     suite.run(*argv, "--", suite.program, "past", cwd=folder, WHO="me", FAKE_PACKETS=packets)
     given = read_packets(packets)[0]
     here = os.path.realpath(folder)
-    expect([given.count(it) for it in (f"{here}/known", "--suppressions", "--baseline")], [3, 2, 1], "files")
+    expect([given.count(it) for it in (f"{here}/known", "--suppressions", "--baseline")], [2, 2, 1], "files")
     expect(given[given.index("--html") + 1], f"{here}/of-me-%", "html")
     for word in ("--gen-suppressions", "--live", "--color", "--source-root", "--quiet"):
         expect(word in given, True, word)
