@@ -351,8 +351,12 @@ def run_takes_anything(folder: str) -> None:
     feed.send({"type": "process", "n": 4, "pid": 4, "reports": 1, "whole": True}, reading, writing)
     feed.send({"type": "process", "n": 1 << 60, "pid": 4, "reports": 1, "whole": True}, reports.memory(FREED.encode()))
     feed.send({"type": "process", "n": 6, "pid": 6, "reports": 1, "whole": True, "command": ["lost"]})
+    # A packet that waited has the count of a later segment, whose reports come next.
+    feed.send({"type": "process", "n": 7, "pid": 7, "reports": 1, "whole": True, "command": ["late"]})
+    feed.process(7, FREED + END)
     feed.process(5, FREED + END)
     ran = feed.end()
+    expect_not_in(ran.out, "late: INCOMPLETE")
     expect_in(ran.out, "a message of asancol-run was not understood", "load of 4 bytes",
               "process 6 lost: INCOMPLETE: its reports did not arrive")
     expect(ran.err, "", "errors")
