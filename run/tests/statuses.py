@@ -151,7 +151,7 @@ REFUSED: Dict[str, Tuple[str, str]] = {
     "near, with a value": ("--supressions=f true", "there is no option --supressions; is --suppressions meant?"),
     "beginning": ("--code f true", "is --codequality meant?"),
     "halt": ("--halt true", "there is no option --halt; ASANCOL_HALT=1 in the environment ends each process"),
-    "AddressSanitizer's": ("--log_path=x true", "there is no option --log_path; is --log-file meant?"),
+    "AddressSanitizer's": ("--log_path=x true", "there is no option --log_path; is --log-path meant?"),
     "AddressSanitizer's, with dashes": ("--detect-leaks=1 true", "is --leaks=yes meant?"),
     "AddressSanitizer's alone": ("--strip-path-prefix=/a true", "ASAN_OPTIONS=strip_path_prefix=.. in the environment"),
     "letter": ("-x true", "there is no option -x\n"),
@@ -231,7 +231,7 @@ def check_help(suite: Suite, folder: str) -> None:
         ran = suite.run(word)
         expect((ran.status, ran.err), (0, ""), word)
         lines = ran.out.splitlines()
-        if len(lines) > 42 or max(len(it) for it in lines) > 80:
+        if len(lines) > 44 or max(len(it) for it in lines) > 80:
             raise Failure(f"the help has {len(lines)} lines, and up to {max(len(it) for it in lines)} columns")
     expect(suite.run("--version").out.split()[0], "asancol-run", "version")
     expect(suite.run("-q", "--help").status, 0, "help after another option")
