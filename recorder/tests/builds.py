@@ -358,7 +358,7 @@ def check_own_flag(suite, folder, compiler):
 
 
 # What a compiler's program has among its texts.
-TEXTS = {"gcc": "%{!fsyntax-only", "clang": "libclang-cpp.so"}
+TEXTS = {"gcc": "%{!fsyntax-only", "clang": "libclang-cpp.so.14"}
 
 # It does not say its version.
 SILENT = """
