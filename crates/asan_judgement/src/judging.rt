@@ -1,13 +1,13 @@
 //! The judgement of a process.
 
-ghost use Rattle.std.specs.Prelude.{◌≡◌, ◌≢◌, true, IfSome, IfNone, IsSome};
+ghost use Rattle.std.specs.Prelude.{◌≡◌, ◌≢◌, true, false, IfSome, IfNone, IsSome};
 ghost use Rattle.asan_judgement.specs.Complete.{is_cut_off, is_complete, IsComplete};
 ghost use Rattle.asan_judgement.specs.Complete.{LacksNothing, WasChecked, WasSeen, IsInTime, HasBegun};
 ghost use Rattle.asan_judgement.specs.Complete.{HasAllByAnEnd, WasSeenUpToThere};
 ghost use Rattle.asan_judgement.specs.Reasons.{IsTrueOf, IsGoneAbruptly};
 ghost use Rattle.asan_judgement.specs.declared.facts.Fate.TheVariants.{NotChecked, NoMemory, TooMany};
 ghost use Rattle.asan_judgement.specs.declared.facts.Ending.TheVariants.{Unheard, Signal};
-ghost use Rattle.asan_judgement.specs.declared.verdict.Answer.TheVariants.{UpToThere, Incomplete};
+ghost use Rattle.asan_judgement.specs.declared.verdict.Answer.TheVariants.{UpToThere, Unchecked, Incomplete};
 
 use crate::facts::{Ending, Facts, Fate};
 use crate::verdict::{Answer, Verdict, Why};
@@ -30,6 +30,8 @@ pub fn judge(fate: Fate, ending: Ending, facts: &Facts) -> Verdict
     ensures whole { HasAllByAnEnd fate ending facts.now → IsComplete fate ending facts.now
         → is_complete result.answer ≡ true }
     ensures replaced { ending ≡ Unheard → facts.now.replaced ≡ true → result.answer ≢ UpToThere }
+    ensures unchecked { result.answer ≡ Unchecked → facts.now.checks ≡ false }
+    ensures lacks_checks_alone { result.answer ≡ Unchecked → LacksNothing facts.now }
     ensures why { IsTrueOf result.why fate ending facts.now }
 {
     if let Some(why) = what_was_lost(fate, ending, facts) {
@@ -111,6 +113,7 @@ fn judge_gone(fate: Fate, ending: Ending, facts: &Facts) -> Verdict
     ensures whole { facts.now.checks ≡ true → WasSeenUpToThere fate ending facts.now
         → is_complete result.answer ≡ true }
     ensures replaced { facts.now.replaced ≡ true → result.answer ≢ UpToThere }
+    ensures unchecked { result.answer ≡ Unchecked → facts.now.checks ≡ false }
     ensures why { IsTrueOf result.why fate ending facts.now }
 {
     let (answer, why) = if !facts.checks {
@@ -185,6 +188,7 @@ fn judge_seen(fate: Fate, ending: Ending, facts: &Facts) -> Verdict
     ensures whole { facts.now.checks ≡ true → HasBegun ending facts.now
         → is_complete result.answer ≡ true }
     ensures abrupt { result.answer ≡ UpToThere → ending ≡ Signal }
+    ensures unchecked { result.answer ≡ Unchecked → facts.now.checks ≡ false }
     ensures why { IsTrueOf result.why fate ending facts.now }
 {
     let (answer, why) = if !facts.checks {
