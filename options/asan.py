@@ -11,8 +11,7 @@ TABLE = "common/asan_options.def"
 PAGE = "docs/ASAN.md"
 ROW = re.compile(r'^OPTION\((\w+), (\w+), "([^"]*)",\s*((?:"[^"]*"\s*)+)\)$', re.M)
 REGION = re.compile(r"(?<=^<!-- options: )(\w+) -->\n(?:.*\n)*?(?=^<!-- end of options -->$)", re.M)
-FATES = {"taken": ("RUN", "PROCESS"), "fixed": ("FIXED",), "harmless": ("HARMLESS",)}
-COLUMNS = 120
+FATES = {"taken": ("RUN", "PROCESS"), "fixed": ("FIXED",)}
 
 
 class Row(NamedTuple):
@@ -30,25 +29,11 @@ def rows_of(text: str) -> List[Row]:
     return rows
 
 
-def filled(words: List[str]) -> List[str]:
-    """Returns lines of these words."""
-    lines = [""]
-    for word in words:
-        if lines[-1] and len(lines[-1]) + len(word) + 1 > COLUMNS:
-            lines.append("")
-        lines[-1] += f" {word}" if lines[-1] else word
-    return lines
-
-
 def table_of(kind: str, rows: List[Row]) -> List[str]:
     if kind == "taken":
         return ["| option | serves as |", "|---|---|", *(f"| `{it.name}` | {it.here} |" for it in rows)]
-    if kind == "fixed":
-        listed = [f"`{it.name}={it.value}`," for it in rows if not it.here]
-        return ["| option | what holds | |", "|---|---|---|",
-                *(f"| `{it.name}` | {f'`{it.value}`' if it.value else 'none'} | {it.here} |" for it in rows if it.here),
-                "", *filled(["And", *listed[:-1], listed[-1].replace(",", ".")]), ""]
-    return ["", *filled([f"`{it.name}`{',' if it is not rows[-1] else '.'}" for it in rows]), ""]
+    return ["| option | supported | |", "|---|---|---|",
+            *(f"| `{it.name}` | {f'`{it.value}`' if it.value else 'none'} | {it.here} |" for it in rows if it.here)]
 
 
 def page_of(page: str, table: str) -> str:
