@@ -1,7 +1,7 @@
 """Words of this project for which the field has others, so that only those stand in the tree.
 
-GLOSSARY.md says what they mean here. The old ones stand in this table, in CHANGELOG.md, which says
-what was, and in proved sources, of which each changed byte is proved again.
+GLOSSARY.md defines the new ones. The old ones occur in this table, and in proved sources, where each changed byte must
+be proved again.
 
 Pages for users have a clause where English has a noun no more often than the table of habits says.
 """
@@ -34,7 +34,7 @@ PATTERNS = [
 NAMES = re.compile(r"restat|(?:^|/)(?:hygiene|second_reading|worked|wrong(?:_alone)?|seen_whole)\b")
 # What is not read; and of what the names are not looked at either.
 UNREAD = re.compile(
-    r"CHANGELOG\.md|docs/CALLS\.md|tests/words\.py|.*\.trace"
+    r"docs/CALLS\.md|tests/words\.py|.*\.trace"
     r"|crates/\w+/(?:src|specs|proofs|mutants)/"
 )
 PROVED = re.compile(r"crates/asan_laws/")
