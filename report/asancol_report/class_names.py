@@ -1,21 +1,20 @@
-"""Names of classes. asancol has the coarse ones of its model; what the shadow was at the bad byte tells which of
-AddressSanitizer's it is."""
+"""Names of classes. asancol has the coarse ones of its model; the shadow at the bad byte selects AddressSanitizer's."""
 
 from __future__ import annotations
 
 from .side import Fault, GRANULE, VARIABLE_NONE
 
-# What asancol prints, and what each name means.
+# The classes that asancol prints, with their meaning.
 OF_ASANCOL = {
     "heap-buffer-overflow": "Access outside a heap block",
     "heap-use-after-free": "Access to a freed heap block",
-    "use-after-poison": "Access to memory that the program has poisoned",
+    "use-after-poison": "Access to memory that the program poisoned",
     "stack-buffer-overflow": "Access outside a variable on the stack",
     "global-buffer-overflow": "Access outside a global variable",
-    "unknown-crash": "Access to memory that is not addressable",
+    "unknown-crash": "Access to memory that must not be accessed",
     "double-free": "Block freed twice",
-    "bad-free": "Free of an address where no block begins",
-    "bad-malloc": "Block where none can be",
+    "bad-free": "Free of an address that is not the start of a block",
+    "bad-malloc": "Block at an address where the allocator cannot have placed it",
 }
 NEGATIVE_SIZE = "negative-size-param"
 
@@ -24,17 +23,17 @@ NEGATIVE_SIZE = "negative-size-param"
 OVERLAPPING = ("memcpy", "mempcpy", "strcpy", "stpcpy", "strcat", "strncpy", "stpncpy", "strncat", "wcscpy", "wcpcpy",
                "wcscat", "wcsncpy", "wcpncpy", "wcsncat", "wmemcpy", "wmempcpy")
 OVERFLOWING = ("calloc", "reallocarray", "pvalloc")
-# What each function's wrong alignment is called.
+# The class of each function's wrong alignment.
 ALIGNMENTS = {
     "aligned_alloc": "invalid-aligned-alloc-alignment", "posix_memalign": "invalid-posix-memalign-alignment",
     "memalign": "invalid-allocation-alignment",
 }
 LEAK, INDIRECT_LEAK = "leak", "indirect-leak"
 MISMATCH, SIZE_MISMATCH = "alloc-dealloc-mismatch", "new-delete-type-mismatch"
-# What a report begins with, if that is not its class.
+# The title of a report, if it is not its class.
 TITLES = {LEAK: "detected memory leaks", INDIRECT_LEAK: "detected memory leaks"}
 TOO_BIG, NO_MEMORY = "allocation-size-too-big", "out-of-memory"
-# Functions that are asked how large a block is.
+# Functions that return the size of a block.
 SIZES_ASKED = ("malloc_usable_size", "__sanitizer_get_allocated_size")
 CONTAINER = "bad-__sanitizer_annotate_contiguous_container"
 DOUBLE_ENDED = "bad-__sanitizer_annotate_double_ended_contiguous_container"
@@ -44,25 +43,25 @@ CLASSES = {
     "stack-buffer-underflow": "Access before the first variable of a frame",
     "stack-use-after-scope": "Access to a variable whose scope has ended",
     "stack-use-after-return": "Access to a variable whose function has returned",
-    "dynamic-stack-buffer-overflow": "Access outside a block of alloca, or an array of variable length",
-    "container-overflow": "Access to memory of a container past its elements",
+    "dynamic-stack-buffer-overflow": "Access outside an alloca block or a variable-length array",
+    "container-overflow": "Access to a container's memory outside its elements",
     "intra-object-overflow": "Access outside a field of an object",
     NEGATIVE_SIZE: "Call with a negative size",
-    LEAK: "Block that nothing leads to any more, and that was not freed",
-    INDIRECT_LEAK: "Block that only lost blocks lead to, and that was not freed",
-    MISMATCH: "Block freed by a function of another family than that which has allocated it",
-    SIZE_MISMATCH: "Object deleted with another size or alignment than that which was allocated",
+    LEAK: "Unreachable block that was not freed",
+    INDIRECT_LEAK: "Block that is reachable only from leaked blocks",
+    MISMATCH: "Block freed by a function that does not match its allocation",
+    SIZE_MISMATCH: "Object deleted with a size or alignment other than its allocation's",
     TOO_BIG: "Request for more memory than a block can have",
-    NO_MEMORY: "Request for a block for which there is no memory",
-    CONTAINER: "Annotation of a container past its bounds",
-    DOUBLE_ENDED: "Annotation of a container with two ends past its bounds",
-    POINTER_PAIR: "Comparison or difference of pointers into two objects",
-    ODR: "Global that two modules define",
-    INIT_ORDER: "Access to a global of another file before that has initialised it",
-    **{f"bad-{call}": "Question for the size of a block where none begins" for call in SIZES_ASKED},
-    **{f"{call}-param-overlap": f"Call of {call} on ranges that overlap" for call in OVERLAPPING},
-    **{f"{call}-overflow": f"Call of {call} for more bytes than a size can say" for call in OVERFLOWING},
-    **{name: "Alignment that there is not, or not with this size" for name in ALIGNMENTS.values()},
+    NO_MEMORY: "Request for more memory than is available",
+    CONTAINER: "Container annotation outside the container's memory",
+    DOUBLE_ENDED: "Annotation of a double-ended container outside its memory",
+    POINTER_PAIR: "Comparison or subtraction of pointers into different objects",
+    ODR: "Global variable defined by two modules",
+    INIT_ORDER: "Access to a global of another file before its initialisation",
+    **{f"bad-{call}": "Size requested for an address that is not the start of a block" for call in SIZES_ASKED},
+    **{f"{call}-param-overlap": f"Call of {call} with overlapping ranges" for call in OVERLAPPING},
+    **{f"{call}-overflow": f"Call of {call} with a size that overflows" for call in OVERFLOWING},
+    **{name: "Invalid alignment, or size that is not a multiple of it" for name in ALIGNMENTS.values()},
 }
 
 STACK, POISON = "stack-buffer-overflow", "use-after-poison"

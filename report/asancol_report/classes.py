@@ -1,4 +1,4 @@
-"""What the classes of reports and crashes mean, in words for those who see one for the first time."""
+"""The meaning of each class of reports and crashes, for developers who see it for the first time."""
 
 from __future__ import annotations
 
@@ -7,39 +7,43 @@ import re
 from .class_names import CLASSES
 from .crashes import CRASH_CLASSES
 
-# What to look at, for each class whose name has this. The first that matches counts.
+# What a developer should look at, for each class whose name matches. The first match counts.
 ADVICE = (
-    (r"use-after-free|double-free", "The block was freed before: that free came too early, or a pointer to the block "
-     "was kept. The stacks of the malloc and the free say where."),
-    (r"use-after-(scope|return)", "A pointer to the variable was kept for longer than the variable is there."),
-    (r"leak", "Nothing leads to the block any more, so nobody can free it. Look at where its last pointer is dropped, "
-     "or overwritten, after the stack of its malloc."),
-    (r"overlap", "Use memmove, or look at why the two ranges are not apart."),
-    (r"(calloc|array|pvalloc)-overflow|alignment|too-big", "Look at what is passed in this call: a negative number "
-     "becomes a large size."),
-    (r"out-of-memory", "Look at what is passed in this call, and at what else the process has allocated."),
-    (r"annotate", "A container has to say which of its own bytes are in use: look at what is passed in this call."),
-    (r"pointer-pair", "Only pointers into one object, or just past its end, have an order and a difference."),
-    (r"odr", "All modules use one of the definitions, and one of another size or with another value may be meant: give "
-     "them different names, or make them static or hidden."),
-    (r"init.*-order", "Which file is initialised first is not defined: use a function with a static variable in it."),
-    (r"usable_size|allocated_size", "A pointer that malloc has not given, or that was freed, has no size."),
-    (r"stack-overflow", "Look for a recursion that does not end, and for large variables on the stack."),
-    (r"container", "The container's memory is there, but it has no element at this place."),
-    (r"poison|intra-object", "The program, or a library with a pool of memory, has said that nothing may be here."),
-    (r"overflow|underflow", "An index or a length is too large or too small, or the block or the variable is too small "
-     "for what is put there. The report says which one is nearest, and how far from it the access is."),
-    (r"unknown", "The stack says who wanted it. Nobody knows what the memory was for."),
-    (r"free|dealloc|mismatch", "What is freed has to be what a function of the same kind has given, whole and once."),
-    (r"malloc|alloc|size|param|memcpy", "Look at what is passed in this call."),
-    (r"^SEGV$", "A pointer is null, was never set, or leads nowhere. The address says which: a small one is a null "
-     "pointer, mostly with the offset of a member."),
-    (r"^BUS$", "A mapped file has become shorter, or an address is not aligned as its instruction asks for."),
-    (r"^ILL$", "The function may have ended without the value that it returns, or have come to what can't be. If not, "
-     "the code was made for another processor, or a pointer to a function leads elsewhere."),
-    (r"^FPE$", "Look at the divisor. For integers, the smallest number divided by -1 has no result either."),
-    (r"^SYS$", "A sandbox has forbidden this system call: allow it there, or don't make it."),
-    (r"^ABRT$", "What the program has written before says why. If the test means it to, suppress it."),
+    (r"use-after-free", "Compare the stacks of the free and the access: either the block was freed too early, or "
+     "a pointer to it was kept for too long."),
+    (r"double-free", "Compare the stacks of the two frees: only one of them should own the block."),
+    (r"use-after-(scope|return)", "A pointer or reference to the variable outlives it: copy the value, or give it a "
+     "longer lifetime."),
+    (r"leak", "Follow the block from its allocation, and find where its last pointer goes out of scope or is "
+     "overwritten: it should be freed there."),
+    (r"overlap", "Use memmove for ranges that may overlap, or check why the destination is not separate."),
+    (r"(calloc|array|pvalloc)-overflow|alignment|too-big", "Check the arguments of this call: a negative number "
+     "becomes a very large size."),
+    (r"out-of-memory", "Check the requested size, and how much memory the process holds."),
+    (r"annotate", "Check the arguments of this call: they must describe bytes within the container's own memory."),
+    (r"pointer-pair", "Compare or subtract only pointers into the same object, or just past its end."),
+    (r"odr", "All modules share one definition, although they may expect another size or value: rename one of them, or "
+     "make it static or hidden."),
+    (r"init.*-order", "The order in which files are initialised is undefined: move the global into a function as a "
+     "static variable."),
+    (r"usable_size|allocated_size", "Pass only a pointer that malloc has returned, and that has not been freed."),
+    (r"stack-overflow", "Look for endless recursion, and for large variables on the stack."),
+    (r"container", "Check the index or iterator: the container has this memory, but no element there."),
+    (r"poison|intra-object", "Find the code that poisoned this memory, such as a memory pool: it must not be accessed "
+     "until it is unpoisoned."),
+    (r"overflow|underflow", "Check the index or length, and the size of the block or variable: the report names the "
+     "nearest one and the distance to it."),
+    (r"unknown", "Check where the pointer in the first frame comes from."),
+    (r"free|dealloc|mismatch", "Free each block once, by its first address, with the counterpart of the function that "
+     "allocated it."),
+    (r"malloc|alloc|size|param|memcpy", "Check the arguments of this call."),
+    (r"^SEGV$", "Check where the pointer comes from: an address near 0 is a null pointer plus the offset of a member."),
+    (r"^BUS$", "Check whether a mapped file was truncated, or the address is misaligned for this instruction."),
+    (r"^ILL$", "Check for a function that ends without returning a value, code marked unreachable, and calls through a "
+     "wrong function pointer; otherwise the code was built for another processor."),
+    (r"^FPE$", "Check the divisor, and for integers also the smallest number divided by -1."),
+    (r"^SYS$", "Allow this system call in the sandbox, or avoid it."),
+    (r"^ABRT$", "Read what the program printed before it aborted. If a test expects this, suppress it."),
 )
 
 
@@ -49,18 +53,18 @@ def what_is(name: str) -> str:
 
 def advice_for(name: str) -> str:
     return next((text for pattern, text in ADVICE if re.search(pattern, name)),
-                "The stacks say where it happened, and what the memory was before.")
+                "Check the access in the first stack against the history of the memory in the others.")
 
 
-# What a shadow byte says of its eight bytes, by AddressSanitizer's codes.
+# Where a bad byte is, by AddressSanitizer's code in its shadow byte.
 SHADOWS = {
-    "fa": "in the redzone of a heap block", "fd": "in a heap block that was freed",
+    "fa": "in the redzone of a heap block", "fd": "in a freed heap block",
     "f1": "in the left redzone of a stack frame", "f2": "in the redzone of a variable on the stack",
-    "f3": "in the right redzone of a variable on the stack", "f5": "in the stack of a function that has returned",
+    "f3": "in the right redzone of a variable on the stack", "f5": "in the frame of a function that has returned",
     "f8": "in a variable whose scope has ended", "f9": "in the redzone of a global variable",
-    "f6": "in a global variable that has no value yet", "f7": "in memory that the program has poisoned",
-    "fc": "in memory of a container that has no element there", "ac": "in the count before an array of new[]",
-    "bb": "in a redzone between members of an object", "fe": "in memory of the checks",
+    "f6": "in a global variable that is not initialised yet", "f7": "in memory that the program poisoned",
+    "fc": "in a container's memory, outside its elements", "ac": "in the count before an array of new[]",
+    "bb": "in a redzone between members of an object", "fe": "in memory of asancol",
     "ca": "in the left redzone of an alloca", "cb": "in the right redzone of an alloca",
 }
 

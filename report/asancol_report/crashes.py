@@ -16,13 +16,13 @@ CRASHES: Dict[int, str] = {
 }
 STACK_OVERFLOW = "stack-overflow"
 CRASH_CLASSES = {
-    "SEGV": "Access to an address where nothing is, or where this access is not allowed",
-    "BUS": "Access to memory that has nothing behind it, as past the end of a mapped file",
-    "ILL": "Instruction that the processor does not know, as where a compiler found that none can come",
-    "FPE": "Arithmetic that has no result, as an integer division by zero",
-    "ABRT": "The program has ended itself, as a failed assertion does",
-    "SYS": "System call that a filter does not allow",
-    STACK_OVERFLOW: "The stack is used up, as by a recursion without an end",
+    "SEGV": "Access to an address that is unmapped or protected",
+    "BUS": "Access to mapped memory without backing, such as past the end of a mapped file",
+    "ILL": "Instruction that the processor does not have, such as one for unreachable code",
+    "FPE": "Arithmetic error, such as an integer division by zero",
+    "ABRT": "The program aborted, such as by a failed assertion",
+    "SYS": "System call that a filter forbids",
+    STACK_OVERFLOW: "Stack exhausted, such as by endless recursion",
 }
 NO_PLACE = "its place was not recorded"
 # Why one does not count.

@@ -135,7 +135,7 @@ class Page:
         for position, finding in enumerate(findings[:MAX_FINDINGS]):
             yield self.card(finding, position)
         if not findings:
-            text = "No reports." if self.results.is_complete() else "No reports, but not all was seen."
+            text = "No reports." if self.results.is_complete() else "No reports, but the run was incomplete."
             yield tag("p", text, class_="empty")
         if len(findings) > MAX_FINDINGS:
             yield tag("p", f"The first {number(MAX_FINDINGS)} of {number(len(findings))} places.", class_="dim")
@@ -176,7 +176,7 @@ class Page:
             first = finding.follows
             place = f"{brief(first.top.function)} {self.place(first)}"
             link = tag("a", escape(f"{first.title} in {place}"), href="#" + name_of(first))
-            yield tag("p", "On the same block or variable as " + link + ", which came before.")
+            yield tag("p", "On the same block or variable as the earlier " + link + ".")
         yield tag("p", escape(self.what_is(finding)))
         if finding.is_forgotten:
             yield tag("p", escape(f"The block was {FORGOTTEN}."))
@@ -201,7 +201,7 @@ class Page:
         """Returns what is wrong, in sentences."""
         text = what_is(finding.class_name) + "."
         if finding.by_recorder:
-            return f"{text} The recorder has found this by itself: the checker has not judged it."
+            return f"{text} The recorder found this by itself; the checker did not judge it."
         if isinstance(finding, Crash):
             return text
         shadow = f": {shadow_text(shadow_of(finding))}" if finding.shadow else ""

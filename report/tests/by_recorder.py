@@ -152,7 +152,7 @@ def each_output(folder: str) -> None:
     expect([it["properties"].get("by") for it in sarif["results"]], [None, "recorder"], "SARIF")
     expect_in(sarif["results"][1]["message"]["text"], "malloc vs operator delete, byte 0 of a block of 40",
               "(by the recorder)")
-    expect_in(str(sarif["tool"]["driver"]["rules"]), "alloc-dealloc-mismatch", "of another family")
+    expect_in(str(sarif["tool"]["driver"]["rules"]), "alloc-dealloc-mismatch", "does not match its allocation")
     entries = json.loads(text_of(folder, "a.codequality"))
     expect([it["description"].endswith("(by the recorder)") for it in entries], [False, True], "Code Quality")
     (case,) = xml.dom.minidom.parse(f"{folder}/a.junit").getElementsByTagName("failure")
@@ -161,8 +161,8 @@ def each_output(folder: str) -> None:
     expect_in(case.firstChild.data, "(by the recorder, 2 times, 1 process)")  # type: ignore[union-attr]
     page = text_of(folder, "a.html")
     expect(page.count("(by the recorder)</span>"), 1, "the page's titles")
-    expect(page.count("the checker has not judged it"), 1, "the page's sentences")
-    expect_in(page, "What is by the recorder")
+    expect(page.count("the checker did not judge it"), 1, "the page's sentences")
+    expect_in(page, "except those marked")
     process = next(it for it in map(json.loads, text_of(folder, "a.json").splitlines()) if it["type"] == "process")
     expect((process["reports"], process["findings"]), (1, 1), "a process")
 
