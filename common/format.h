@@ -76,17 +76,12 @@ static inline uint64_t span_bytes(uint64_t size)
 /* What stands beside a trace: the memory that a process shares with a hub, or the file TRACE.where. README.md says
    it in words. */
 #define SIDE_HEADER "ASWH\5\0\0\0"
-/* The byte of it with the version. A reader takes these versions: the oldest has no findings, and zeros for them. */
-enum { SIDE_VERSION_AT = 4, SIDE_VERSION = 5, SIDE_OLDEST = 4 };
 
 static inline bool is_side_header(const char header[8])
 {
-    char same[8];
-    memcpy(same, header, sizeof same);
-    same[SIDE_VERSION_AT] = SIDE_VERSION;
-    return header[SIDE_VERSION_AT] >= SIDE_OLDEST && header[SIDE_VERSION_AT] <= SIDE_VERSION
-           && memcmp(same, SIDE_HEADER, sizeof same) == 0;
+    return memcmp(header, SIDE_HEADER, sizeof SIDE_HEADER - 1) == 0;
 }
+
 /* The name of that memory, as the map of a process has it. */
 #define SIDE_MEMORY "asancol"
 

@@ -13,7 +13,7 @@ from typing import Dict, List, NamedTuple, Set, Tuple
 
 from .errors import reason
 from .reading import open_regular, read_at
-from .side import ENDING_NONE, ENDING_SEGMENT, HEAD, HEADERS, MAPS_AT, PROGRESS, PROGRESS_AT, trouble_of
+from .side import ENDING_NONE, ENDING_SEGMENT, HEAD, HEADER, MAPS_AT, PROGRESS, PROGRESS_AT, trouble_of
 
 # What the segments of a process share.
 Key = Tuple[str, ...]
@@ -65,7 +65,7 @@ def known_of(path: str) -> Known:
     folder = os.path.realpath(folder)
     family, number = apart(name)
     head, progress = fronts_of(path + ".where")
-    if len(head) < HEAD.size or not head.startswith(HEADERS) or len(progress) < PROGRESS.size:
+    if len(head) < HEAD.size or not head.startswith(HEADER) or len(progress) < PROGRESS.size:
         return Known((folder, *family), number)
     _, _, _, ending, _, process, _, started, *_ = HEAD.unpack(head)
     before = PROGRESS.unpack(progress)[1]

@@ -16,10 +16,7 @@ from .reading import is_regular, open_regular, read_at
 from .words import plural
 
 HEADER = b"ASWH\5\0\0\0"
-# One of these versions is read. The oldest has no findings, and zeros for them.
-VERSION_AT, OLDEST = 4, 4
-HEADERS = tuple(HEADER[:VERSION_AT] + bytes([it]) + HEADER[VERSION_AT + 1:]
-                for it in range(OLDEST, HEADER[VERSION_AT] + 1))
+MAGIC = HEADER[:4]
 HEAD = struct.Struct("<8sQQIIIIQIIIIQ")
 ARGV_AT, ARGV_ROOM = 72, 4000
 LAST_AT, LAST = 4072, struct.Struct("<QQII")
@@ -70,14 +67,12 @@ FAULTS_PART = 1 << 10
 
 def trouble_of(head: bytes) -> str:
     """Returns what is wrong with a side file of which this is all before its modules; nothing, if it can be read."""
-    version = head[VERSION_AT] if len(head) > VERSION_AT else 0
-    if head.startswith(HEADERS) and len(head) == MAPS_AT:
+    if head.startswith(HEADER) and len(head) == MAPS_AT:
         return ""
-    if head.startswith(HEADERS) or HEADER.startswith(head):
+    if head.startswith(HEADER) or HEADER.startswith(head):
         return f" is cut after {plural(len(head), 'byte')}, as on a full disk: record again to see where each event was"
-    if head[:VERSION_AT] == HEADER[:VERSION_AT]:
-        reads = f"{OLDEST} to {HEADER[VERSION_AT]}"
-        return f" has version {version}, and this release reads {reads}: take the other release"
+    if head.startswith(MAGIC):
+        return " was recorded by another release: read it with that one"
     return " is no side file: record with ASANCOL_WHERE=1 to see where each event was"
 
 
@@ -180,7 +175,7 @@ class Side:
     def __init__(self, descriptor: int) -> None:
         self.descriptor = descriptor
         head = read_at(descriptor, 0, HEAD.size) if is_regular(descriptor) else b""
-        self.is_good = len(head) == HEAD.size and head.startswith(HEADERS)
+        self.is_good = len(head) == HEAD.size and head.startswith(HEADER)
         fields = HEAD.unpack(head) if self.is_good else (b"",) + (0,) * 12
         _, self.events, self.left_out, self.ending, self.signal, self.process, self.parent = fields[:7]
         self.started, self.has_checks, self.is_at_limit, fault_count, stack_words, self.quarantine = fields[7:]

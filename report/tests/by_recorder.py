@@ -336,20 +336,16 @@ def leaks_of_runs(folder: str) -> None:
 
 @report_test
 def what_is_no_finding(folder: str) -> None:
-    """Entries that are not whole, of kinds that nobody knows, and memory of an older release, which has none."""
+    """Entries that are not whole, of kinds that nobody knows, and all of another release."""
     program = build(folder)
     unknown = finding(layout.FINDING_LAST + 1, program.places["drop"])
     found = [mismatch(program.places, count=0), unknown, freed_block(program)]
-    older = layout.HEADERS[0]
     write_trace(folder, "a.trace", OVERFLOW + END, of_program(program, found, [0, 3], findings=2))
-    write_trace(folder, "b.trace", OVERFLOW + END, of_program(program, [freed_block(program)], [0, 1], header=older))
-    expect(older, b"ASWH\4\0\0\0", "the header of the older one")
-    for name in ("a.trace", "b.trace"):
-        ran = report(folder, "--trace", name)
-        expect_in(ran.out, "1 report at 1 place; 1 process", "in use ")
-        expect_not_in(ran.out, "recorder")
+    ran = report(folder, "--trace", "a.trace")
+    expect_in(ran.out, "1 report at 1 place; 1 process", "in use ")
+    expect_not_in(ran.out, "recorder")
     write_trace(folder, "c.trace", OVERFLOW + END, of_program(program, [freed_block(program)], [0, 1],
-                                                             header=b"ASWH\3\0\0\0"))
+                                                             header=b"ASWH\4\0\0\0"))
     expect_not_in(report(folder, "--trace", "c.trace").out, "in use ")
     write_trace(folder, "d.trace", CLEAN, of_program(program, [], (), findings_lost=3))
     expect_in(report(folder, "--trace", "d.trace").out,

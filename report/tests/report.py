@@ -64,11 +64,12 @@ def trace_without_side_file(folder: str) -> None:
     expect_in(ran.out, "heap-use-after-free: load of 4 bytes", "#0 its place was not recorded", "address 0x2000",
               "b.trace.where: No such file or directory: record with ASANCOL_WHERE=1")
     for head, size, why in (
-        (b"ASWH\2\0\0\0", 1 << 18, "has version 2, and this release reads 4 to 5"),
+        (b"ASWH\2\0\0\0", 1 << 18, "was recorded by another release: read it with that one"),
         (b"", 0, "is cut after 0 bytes, as on a full disk"),
         (b"ASWH\5\0\0\0", 8, "is cut after 8 bytes, as on a full disk"),
         (b"\x7fELF", 1 << 18, "is no side file: record with"),
-        (b"ASWH\4\0\0\0", 1 << 18, ""),
+        (b"ASWH\4\0\0\0", 1 << 18, "was recorded by another release"),
+        (b"ASWH\5\0\0\0", 1 << 18, ""),
     ):
         write_trace(folder, "c.trace", FREED + END, [(0, head)])
         os.truncate(f"{folder}/c.trace.where", size)
