@@ -59,6 +59,7 @@ class Program(NamedTuple):
     has_library: bool = False  # made of the same source without asancol-cc, and without a sanitizer
     quarantine_mb: int = 256
     says_rest: bool = False  # prints how many MB it has at its end
+    flags: Sequence[str] = ()  # Clang's alone
 
 
 PROGRAMS = [
@@ -79,6 +80,15 @@ PROGRAMS = [
     Program("strings", "speed.c", (["strings", "5000000"],)),
     Program("leaks", "speed.c", (["live", "1000000"],), has_leaks=True),
     Program("live", "speed.c", (["live", "1000000"],)),
+    Program("text", "speed.c", (["text", "400000"],)),
+    Program("matrix", "speed.c", (["matrix", "20"],)),
+    Program("hash", "speed.c", (["hash", "8000000"],)),
+    Program("starts", "speed.c", (["starts", "200"],)),
+    Program("starts-leaks", "speed.c", (["starts", "200"],), has_leaks=True),
+    Program("forks", "speed.c", (["forks", "300"],)),
+    Program("forks-leaks", "speed.c", (["forks", "300"],), has_leaks=True),
+    Program("execs", "speed.c", (["execs", "100"],)),
+    Program("fuzzer", "speed_fuzzed.c", (["-runs=300000", "-seed=1"],), flags=("-fsanitize=fuzzer",)),
     Program("plain", "speed_plain.c", (["5000000"],), has_library=True),
     Program("containers", "containers.cpp", (["300000"],), is_cpp=True),
     Program("bzip2", "bzip2", (["-kf", "words"], ["-kdf", "words.bz2"]), is_real=True),
@@ -125,7 +135,7 @@ def build_real(compiler: Compiler, program: Program, flags: Sequence[str], is_re
 def make(compiler: Compiler, program: Program, way: str, folder: str) -> str:
     """Builds a program and returns its path. The ways of a recorded one share a build."""
     is_recorded = way in RECORDED
-    flags = ["-O2", ALIGNED[compiler.name], *SANITIZED.get(way, [])]
+    flags = ["-O2", ALIGNED[compiler.name], *SANITIZED.get(way, []), *program.flags]
     if program.finds_returns and is_recorded:
         flags.append("-fsanitize-address-use-after-return=runtime")
     name = program.name if program.is_real or program.finds_returns else program.source
@@ -238,6 +248,8 @@ def main(argv: Optional[List[str]] = None) -> int:
         write_words(folder)
         for program in programs:
             for compiler in found:
+                if program.flags and compiler.name != "clang":
+                    continue
                 try:
                     print(row(compiler, program, options.rounds, folder, asancol), flush=True)
                 except Failure as error:

@@ -1,9 +1,12 @@
 /* The programs of the table of speed, one a run: `speed NAME COUNT`. bench.py measures them. */
 #define _GNU_SOURCE
+#include <spawn.h>
 #include <stdint.h>
 #include <stdio.h>
 #include <stdlib.h>
 #include <string.h>
+#include <sys/wait.h>
+#include <unistd.h>
 
 static uint64_t state = 88172645463325252u;
 
@@ -227,6 +230,133 @@ static long live(long count)
     return first != NULL;
 }
 
+/* A product of two square matrices, again and again. */
+static long matrix(long count)
+{
+    enum { SIDE = 200 };
+    double (*left)[SIDE] = calloc(SIDE, sizeof *left), (*right)[SIDE] = calloc(SIDE, sizeof *right);
+    double (*product)[SIDE] = calloc(SIDE, sizeof *product);
+    double sum = 0;
+    for (long round = 0; left != NULL && right != NULL && product != NULL && round < count; round++) {
+        left[round % SIDE][0] = right[0][round % SIDE] = (double)round;
+        for (int i = 0; i < SIDE; i++)
+            for (int k = 0; k < SIDE; k++)
+                for (int j = 0; j < SIDE; j++)
+                    product[i][j] += left[i][k] * right[k][j];
+        sum += product[round % SIDE][round % SIDE];
+    }
+    free(left);
+    free(right);
+    free(product);
+    return (long)sum;
+}
+
+/* Lookups in a table of lists. */
+static long hash(long count)
+{
+    enum { LISTS = 1 << 12, NODES = 1 << 14 };
+    struct node **lists = calloc(LISTS, sizeof *lists);
+    long found = 0;
+    for (uint64_t key = 0; lists != NULL && key < NODES; key++) {
+        struct node *node = malloc(sizeof *node);
+        if (node == NULL)
+            return 0;
+        *node = (struct node){.left = lists[key % LISTS], .key = key};
+        lists[key % LISTS] = node;
+    }
+    for (long i = 0; lists != NULL && i < count; i++) {
+        uint64_t key = random_number() % (2 * NODES);
+        struct node *node = lists[key % LISTS];
+        while (node != NULL && node->key != key)
+            node = node->left;
+        found += node != NULL;
+    }
+    return found;
+}
+
+/* The words of a line, each compared with the one before it and copied. */
+static long text(long count)
+{
+    static const char line[] = "the quick brown fox jumps over the lazy lazy dog and runs away through a field of barley";
+    char words[sizeof line], before[32] = "", *rest;
+    long same = 0;
+    for (long i = 0; i < count; i++) {
+        memcpy(words, line, sizeof line);
+        for (char *word = strtok_r(words, " ", &rest); word != NULL; word = strtok_r(NULL, " ", &rest)) {
+            same += strcmp(word, before) == 0;
+            memcpy(before, word, strlen(word) + 1);
+        }
+    }
+    return same;
+}
+
+static long few_blocks(long count)
+{
+    void **first = NULL;
+    for (long i = 0; i < count; i++) {
+        void **block = malloc(24);
+        if (block == NULL)
+            return 0;
+        *block = (void *)first;
+        first = block;
+    }
+    while (first != NULL) {
+        void **next = (void **)*first;
+        free((void *)first);
+        first = next;
+    }
+    return count;
+}
+
+/* Waits for a child that `fork` returned, and says whether it ended well. */
+static long waited_for(pid_t child)
+{
+    int status;
+    return child > 0 && waitpid(child, &status, 0) == child && status == 0;
+}
+
+/* Runs this program again, which has 1,000 blocks. */
+static long starts(long count)
+{
+    char *words[] = {"speed", "few-blocks", "1000", NULL};
+    long well = 0;
+    for (long i = 0; i < count; i++) {
+        pid_t child = 0;
+        if (posix_spawn(&child, "/proc/self/exe", NULL, NULL, words, environ) == 0)
+            well += waited_for(child);
+    }
+    return well;
+}
+
+/* Children of their own, with a block each. */
+static long forks(long count)
+{
+    long well = 0;
+    for (long i = 0; i < count; i++) {
+        pid_t child = fork();
+        if (child == 0)
+            exit(few_blocks(1) != 1);
+        well += waited_for(child);
+    }
+    return well;
+}
+
+/* Children that run a program that ten folders of PATH do not have. */
+static long execs(long count)
+{
+    long well = 0;
+    setenv("PATH", "/a:/b:/c:/d:/e:/f:/g:/h:/i:/j:/bin", 1);
+    for (long i = 0; i < count; i++) {
+        pid_t child = fork();
+        if (child == 0) {
+            execlp("true", "true", (char *)NULL);
+            _exit(2);
+        }
+        well += waited_for(child);
+    }
+    return well;
+}
+
 int main(int count, char **argv)
 {
     static const struct {
@@ -234,7 +364,9 @@ int main(int count, char **argv)
         long (*run)(long);
     } programs[] = {{"array", array},    {"tree", tree},         {"sort", sort},         {"blocks", blocks},
                     {"frames", frames},  {"calls", calls},       {"copies", copies},     {"strings", strings},
-                    {"40-kb", forty_kb}, {"100-kb", hundred_kb}, {"sawtooth", sawtooth}, {"live", live}};
+                    {"40-kb", forty_kb}, {"100-kb", hundred_kb}, {"sawtooth", sawtooth}, {"live", live},
+                    {"text", text},      {"matrix", matrix},     {"hash", hash},         {"few-blocks", few_blocks},
+                    {"starts", starts},  {"forks", forks},       {"execs", execs}};
     for (size_t i = 0; count == 3 && i < sizeof programs / sizeof *programs; i++) {
         if (strcmp(argv[1], programs[i].name) != 0)
             continue;
