@@ -108,11 +108,40 @@ static void find_modules(const char *map)
 
 /* The map. */
 
+/* The length of the line at `at`, with its end; 0: the end is not there. */
+static size_t line_length(const char *at, size_t size)
+{
+    const char *end = memchr(at, '\n', size);
+    return end != NULL ? (size_t)(end + 1 - at) : 0;
+}
+
+/* Whether a line is of data of no file and without a name: nobody asks for those, and a process may have 65,530. */
+static bool is_nameless_data(const char *line, size_t size)
+{
+    const char *rights = memchr(line, ' ', size);
+    return rights != NULL && (size_t)(line + size - rights) > 4 && rights[3] != 'x' && memchr(line, '/', size) == NULL
+           && memchr(line, '[', size) == NULL;
+}
+
+/* Takes them out of a part of a map, whose last line may end later. Answers the length of the rest. */
+static size_t without_nameless_data(char *lines, size_t length)
+{
+    size_t from = 0, to = 0, size;
+    for (; (size = line_length(lines + from, length - from)) != 0; from += size) {
+        if (is_nameless_data(lines + from, size))
+            continue;
+        memmove(lines + to, lines + from, size);
+        to += size;
+    }
+    memmove(lines + to, lines + from, length - from);
+    return to + length - from;
+}
+
 static size_t read_map(char *to, size_t room)
 {
     /* The last line of all, where there is one: after it nothing needs to be asked for. */
     static const char last[] = "[vsyscall]\n";
-    enum { LAST = sizeof last - 1 };
+    enum { LAST = sizeof last - 1, PIECE = 4096 };
     size_t length = 0;
     ssize_t count;
     int file = descriptor_of_file("/proc/self/maps", O_RDONLY | O_CLOEXEC);
@@ -122,6 +151,8 @@ static size_t read_map(char *to, size_t room)
         length += (size_t)count;
         if (length >= LAST && memcmp(to + length - LAST, last, LAST) == 0)
             break;
+        if (room - length < PIECE)
+            length = without_nameless_data(to, length);
     }
     system_close(file);
     to[length] = 0;

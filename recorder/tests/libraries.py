@@ -358,8 +358,36 @@ def check_closed(suite: Suite, folder: str, compiler: Compiler) -> None:
         expect(seen, [("bug", "closed.c:4")] if is_known else [], what)
 
 
+CROWDED = """#include <stdlib.h>
+#include <sys/mman.h>
+int main(int count, char **argv)
+{
+    /* Below all code. */
+    enum { PAGES = 20000, PAGE = 4096 };
+    char *pages = mmap((void *)0x310000000000, (size_t)PAGES * PAGE, PROT_READ | PROT_WRITE,
+                       MAP_PRIVATE | MAP_ANONYMOUS | MAP_NORESERVE, -1, 0);
+    for (int i = 0; i < PAGES; i += 2)
+        mprotect(pages + (size_t)i * PAGE, PAGE, PROT_READ);
+    char *volatile block = malloc(8);
+    block[count + 7] = argv[0][0];
+    return 0;
+}
+"""
+
+
+def check_crowded(suite: Suite, folder: str, compiler: Compiler) -> None:
+    """A process with more mappings of memory than its note of modules can list keeps the names of its code."""
+    write(folder, crowded_c=CROWDED)
+    compiler.c(folder, ["crowded.c"], f"{folder}/crowded", "-g")
+    ran = run(["./crowded"], folder, ASANCOL_TRACE="t.trace", ASANCOL_WHERE="1")
+    expect((ran.returncode, ran.stderr), (0, b""), "the program")
+    seen = [(it.function, it.line) for it in placed(suite.asancol, f"{folder}/t.trace")[0]]
+    expect(seen, [("main", "crowded.c:12")], "its line")
+
+
 def tests(suite: Suite, compiler: Compiler) -> None:
     suite.test(f"{compiler} libraries that were closed", check_closed, compiler)
+    suite.test(f"{compiler} libraries beside 20,000 mappings", check_crowded, compiler)
     for link in LINKS:
         suite.test(f"{compiler} plain libraries, {link}", check_calls, compiler, link)
     suite.test(f"{compiler} plain libraries, their slots", check_slots, compiler)
