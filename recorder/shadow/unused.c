@@ -49,7 +49,7 @@ static bool find_file(void)
     struct stat seen;
     if (is_still_open())
         return true;
-    int made = descriptor_of_memory("asancol-unused", MFD_CLOEXEC);
+    int made = descriptor_of_memory(UNUSED_NAME, MFD_CLOEXEC);
     file.descriptor = -1;
     if (made < 0)
         return false;

@@ -7,6 +7,9 @@
 #include <stdbool.h>
 #include <stdint.h>
 
+/* Its name among the process's files. */
+#define UNUSED_NAME "asancol-unused"
+
 /* Shows this of SHADOW_OF_FILE bytes from this multiple of that on. False: it can't be, and their shadow is as it was.
    The allocator's lock is held. */
 bool unused_show(uint64_t address);

@@ -15,6 +15,7 @@
 #include "base/platform.h"
 #include "base/system.h"
 #include "process/link_note.h"
+#include "shadow/unused.h"
 #include "stream/state.h"
 
 enum { MAPS_ROOM = SIDE_UNCHECKED - SIDE_MAPS };
@@ -115,12 +116,16 @@ static size_t line_length(const char *at, size_t size)
     return end != NULL ? (size_t)(end + 1 - at) : 0;
 }
 
-/* Whether a line is of data of no file and without a name: nobody asks for those, and a process may have 65,530. */
+/* Whether a line is of data without a name, or of the shadow of unused memory: nobody asks for those, and a process may
+   have 65,530. */
 static bool is_nameless_data(const char *line, size_t size)
 {
-    const char *rights = memchr(line, ' ', size);
-    return rights != NULL && (size_t)(line + size - rights) > 4 && rights[3] != 'x' && memchr(line, '/', size) == NULL
-           && memchr(line, '[', size) == NULL;
+    static const char unused[] = "/memfd:" UNUSED_NAME;
+    enum { UNUSED = sizeof unused - 1 };
+    const char *end = line + size, *rights = memchr(line, ' ', size), *name = memchr(line, '/', size);
+    if (rights == NULL || end - rights <= 4 || rights[3] == 'x')
+        return false;
+    return name != NULL ? end - name > UNUSED && memcmp(name, unused, UNUSED) == 0 : memchr(line, '[', size) == NULL;
 }
 
 /* Takes them out of a part of a map, whose last line may end later. Answers the length of the rest. */

@@ -358,16 +358,19 @@ def check_closed(suite: Suite, folder: str, compiler: Compiler) -> None:
         expect(seen, [("bug", "closed.c:4")] if is_known else [], what)
 
 
-CROWDED = """#include <stdlib.h>
+CROWDED = """#define _GNU_SOURCE
+#include <stdlib.h>
 #include <sys/mman.h>
+#include <unistd.h>
 int main(int count, char **argv)
 {
-    /* Below all code. */
+    /* Below all code, and every other page as the recorder maps the shadow of unused memory. */
     enum { PAGES = 20000, PAGE = 4096 };
+    int file = memfd_create("asancol-unused", 0);
     char *pages = mmap((void *)0x310000000000, (size_t)PAGES * PAGE, PROT_READ | PROT_WRITE,
                        MAP_PRIVATE | MAP_ANONYMOUS | MAP_NORESERVE, -1, 0);
     for (int i = 0; i < PAGES; i += 2)
-        mprotect(pages + (size_t)i * PAGE, PAGE, PROT_READ);
+        mmap(pages + (size_t)i * PAGE, PAGE, PROT_READ, MAP_PRIVATE | MAP_FIXED, file, 0);
     char *volatile block = malloc(8);
     block[count + 7] = argv[0][0];
     return 0;
@@ -382,7 +385,7 @@ def check_crowded(suite: Suite, folder: str, compiler: Compiler) -> None:
     ran = run(["./crowded"], folder, ASANCOL_TRACE="t.trace", ASANCOL_WHERE="1")
     expect((ran.returncode, ran.stderr), (0, b""), "the program")
     seen = [(it.function, it.line) for it in placed(suite.asancol, f"{folder}/t.trace")[0]]
-    expect(seen, [("main", "crowded.c:12")], "its line")
+    expect(seen, [("main", "crowded.c:15")], "its line")
 
 
 def tests(suite: Suite, compiler: Compiler) -> None:
