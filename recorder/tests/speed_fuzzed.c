@@ -1,5 +1,4 @@
-/* A target of libFuzzer, whose speed bench.py measures: it splits its input into words, and counts those that come again.
- */
+/* A target of libFuzzer whose speed bench.py measures: it splits its input into words, and counts the repeated ones. */
 #include <stdbool.h>
 #include <stdint.h>
 #include <stdlib.h>
