@@ -234,8 +234,8 @@ static long live(long count)
 static long matrix(long count)
 {
     enum { SIDE = 200 };
-    double (*left)[SIDE] = calloc(SIDE, sizeof *left), (*right)[SIDE] = calloc(SIDE, sizeof *right);
-    double (*product)[SIDE] = calloc(SIDE, sizeof *product);
+    double(*left)[SIDE] = calloc(SIDE, sizeof *left), (*right)[SIDE] = calloc(SIDE, sizeof *right);
+    double(*product)[SIDE] = calloc(SIDE, sizeof *product);
     double sum = 0;
     for (long round = 0; left != NULL && right != NULL && product != NULL && round < count; round++) {
         left[round % SIDE][0] = right[0][round % SIDE] = (double)round;
@@ -277,7 +277,7 @@ static long hash(long count)
 /* The words of a line, each compared with the one before it and copied. */
 static long text(long count)
 {
-    static const char line[] = "the quick brown fox jumps over the lazy lazy dog and runs away through a field of barley";
+    static const char line[] = "the quick brown fox jumps over the lazy lazy dog and runs through a field of barley";
     char words[sizeof line], before[32] = "", *rest;
     long same = 0;
     for (long i = 0; i < count; i++) {
