@@ -4,6 +4,7 @@
 #include "heap/heap.h"
 
 #include <errno.h>
+#include <sys/mman.h>
 
 #include "base/own_code.h"
 #include "calls/library.h"
@@ -122,6 +123,22 @@ static void note_malloc(uintptr_t address, size_t size)
         note_left_out(heap_shard());
 }
 
+/* Blocks of some pages get them at once, which takes half as long as a fault for each: if the process has been handed out
+   enough to seem to allocate many, and only up to the size from which glibc maps each block, of which programs may leave
+   much untouched. */
+static void populate(const struct block *block, uintptr_t address, size_t size)
+{
+    enum { FIRST_POPULATED = 256, MOST_POPULATED = 128 << 10 };
+    static _Atomic bool is_refused; /* a system before Linux 5.14 */
+    uint32_t unit = unit_of(block);
+    if (heap_is_ordered() || heap.is_unpainted || unit < FIRST_POPULATED || size > MOST_POPULATED
+        || arena.units[unit].kind != UNIT_RUN || atomic_load_explicit(&is_refused, memory_order_relaxed))
+        return;
+    uintptr_t first = address / PAGE * PAGE, end = (address + size + PAGE - 1) / PAGE * PAGE;
+    if (system_madvise((void *)first, end - first, MADV_POPULATE_WRITE) == -EINVAL)
+        atomic_store_explicit(&is_refused, true, memory_order_relaxed);
+}
+
 /* The block becomes live, and its shadow says so: null if there is no memory. */
 static void *place_block(size_t size, size_t alignment, struct origin from, const struct use *use)
 {
@@ -144,6 +161,7 @@ static void *place_block(size_t size, size_t alignment, struct origin from, cons
     SET_NOTE(block->alignment, use->alignment);
     if (!heap.is_unpainted)
         paint_redzones(address, size);
+    populate(block, address, size);
     note_malloc(address, size);
     /* The record may be the first of a segment, whose snapshot has what is live: this block is not yet. */
     block_go(block, BLOCK_LIVE);
