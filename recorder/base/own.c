@@ -11,7 +11,6 @@
 #include <wchar.h>
 
 #include "calls/library.h"
-#include "interface/hooks.h"
 
 #ifndef IS_STATIC
 
@@ -19,7 +18,7 @@
 int *__errno_location(void)
 {
     static int nobodys;
-    return HAS_HOOK(library) ? LIBRARY->__errno_location() : &nobodys;
+    return HAS_HOOKS ? LIBRARY->__errno_location() : &nobodys;
 }
 
 #endif

@@ -25,16 +25,14 @@ REAL(int, fexecve, (int, char *const *, char *const *));
 GUARD_OWN(_exit);
 CHECK _Noreturn void checked__exit(int status)
 {
-    if (HAS_HOOKS)
-        asancol_hooks.finish(FINISH_CLOSED);
+    note_finish(FINISH_CLOSED);
     real__exit(status);
 }
 
 GUARD_OWN(_Exit);
 CHECK _Noreturn void checked__Exit(int status)
 {
-    if (HAS_HOOKS)
-        asancol_hooks.finish(FINISH_CLOSED);
+    note_finish(FINISH_CLOSED);
     real__Exit(status);
 }
 
@@ -72,11 +70,11 @@ static int leave_streams(void)
 GUARD_OWN(daemon);
 CHECK int checked_daemon(int keeps_folder, int keeps_streams)
 {
-    if (!HAS_HOOK(library))
+    if (!HAS_HOOKS)
         return real_daemon(keeps_folder, keeps_streams);
     int result = LIBRARY->fork();
     if (result > 0) {
-        asancol_hooks.finish(FINISH_CLOSED);
+        note_finish(FINISH_CLOSED);
         system_exit(EXIT_SUCCESS);
     }
     if (result < 0)
@@ -98,8 +96,8 @@ CHECK pid_t checked_fork(void)
 {
     IS_OWN_FRAME;
     pid_t child = real_fork();
-    if (child > 0 && HAS_HOOK(child_forked))
-        asancol_hooks.child_forked(child);
+    if (child > 0)
+        note_child_forked(child);
     return child;
 }
 
@@ -133,29 +131,24 @@ struct leaving {
 
 static struct leaving leave(const struct target *target)
 {
-    if (HAS_HOOK(leave)) {
-        unsigned left = asancol_hooks.leave(target);
-        return (struct leaving){(left & LEFT_RECORDING) != 0, (left & LEFT_WORD) != 0};
-    }
-    struct leaving leaving = {.is_expected = HAS_HOOK(becoming) && asancol_hooks.becoming(target)};
-    leaving.is_recorded = HAS_HOOKS && asancol_hooks.before_exec();
-    return leaving;
+    unsigned left = ask_leave(target);
+    return (struct leaving){(left & LEFT_RECORDING) != 0, (left & LEFT_WORD) != 0};
 }
 
 static int stay(struct leaving leaving)
 {
     int error = errno;
     if (leaving.is_recorded)
-        asancol_hooks.exec_failed();
+        note_exec_failed();
     if (leaving.is_expected)
-        asancol_hooks.not_becoming();
+        note_not_becoming();
     errno = error;
     return -1;
 }
 
 static char *const *environment_now(void)
 {
-    bool is_known = HAS_HOOK(library) && LIBRARY->environment != NULL;
+    bool is_known = HAS_HOOKS && LIBRARY->environment != NULL;
     return is_known ? *LIBRARY->environment : NULL;
 }
 

@@ -19,7 +19,7 @@ CHECK void *checked_dlsym(void *where, const char *name)
 {
     IS_OWN_FRAME; /* a resolver of the library may run */
     void *found = real_dlsym(where, name);
-    return found != NULL && HAS_HOOK(instead_of) ? asancol_hooks.instead_of(found, name, true) : found;
+    return found != NULL ? ask_instead_of(found, name, true) : NULL;
 }
 
 /* Of a version: the same code may stand for another that is checked otherwise. */
@@ -28,5 +28,5 @@ CHECK void *checked_dlvsym(void *where, const char *name, const char *version)
 {
     IS_OWN_FRAME;
     void *found = real_dlvsym(where, name, version);
-    return found != NULL && HAS_HOOK(instead_of) ? asancol_hooks.instead_of(found, name, false) : found;
+    return found != NULL ? ask_instead_of(found, name, false) : NULL;
 }

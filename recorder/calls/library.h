@@ -11,13 +11,14 @@
 #include <time.h>
 #include <wchar.h>
 
-#include "shadow/shadow.h"
+#include "base/platform.h"
+#include "calls/hook_page.h"
 
 struct dl_find_object;
 struct dl_phdr_info;
 
-/* Each has the library's name, and an effect as that. What a library does not have does nothing, and answers 0.
-   Shared objects find this too (hooks.h): new ones come last. */
+/* Each has the library's name, and an effect as that. What a library does not have does nothing, and answers 0. Shared
+   objects find this too (hook_page.h). */
 struct library {
     int *(*__errno_location)(void);
     int (*vsnprintf)(char *to, size_t room, const char *format, va_list values);
@@ -55,6 +56,13 @@ struct library {
 };
 
 extern struct library library OWN_NAME(library);
+
+/* That of the program: there if anything is checked. */
+#ifdef IN_SHARED_OBJECT
+#define LIBRARY HOOK_PAGE->functions
+#else
+#define LIBRARY (&library)
+#endif
 
 /* Whether this thread is known to be the only one. */
 static inline bool library_is_alone(void)

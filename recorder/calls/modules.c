@@ -15,11 +15,11 @@ REAL(void *, dlmopen, (Lmid_t, const char *, int));
 
 static void note_opened(void *opened, int mode)
 {
-    if (opened == NULL || !HAS_HOOKS)
+    if (opened == NULL)
         return;
-    if ((mode & RTLD_DEEPBIND) != 0 && HAS_HOOK(deeply_bound))
-        asancol_hooks.deeply_bound(opened);
-    asancol_hooks.modules_changed();
+    if ((mode & RTLD_DEEPBIND) != 0)
+        note_deeply_bound(opened);
+    note_modules_changed();
 }
 
 GUARD_OWN_OF_CALLER(dlopen);

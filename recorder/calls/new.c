@@ -77,7 +77,7 @@ static _Atomic signed char known; /* 1: all operators are the library's; -1: one
 
 static __attribute__((noinline, cold)) bool look_at_operators(void)
 {
-    if (!HAS_HOOK(library) || LIBRARY->dladdr == NULL)
+    if (!HAS_HOOKS || LIBRARY->dladdr == NULL)
         return false;
     bool are_of_library = new_is_of_library() && delete_is_of_library();
     atomic_store_explicit(&known, are_of_library ? 1 : -1, memory_order_relaxed);

@@ -8,7 +8,7 @@
 #include <stddef.h>
 #include <stdint.h>
 
-#include "shadow/shadow.h"
+#include "calls/hook_page.h"
 
 struct dl_phdr_info;
 

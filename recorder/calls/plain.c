@@ -172,7 +172,7 @@ struct way {
 
 static bool is_checked(uintptr_t function)
 {
-    const struct hook_page *hook_page = (const struct hook_page *)HOOK_PAGE_START;
+    const struct hook_page *hook_page = HOOK_PAGE;
     return range_has(hook_page->library, function) || range_has(hook_page->system, function)
            || range_has(hook_page->mathematics, function);
 }
@@ -412,7 +412,7 @@ enum { IS_AT_START = true };
 
 void plain_begin(void)
 {
-    const struct hook_page *hook_page = (const struct hook_page *)HOOK_PAGE_START;
+    const struct hook_page *hook_page = HOOK_PAGE;
     if (hook_page->library.size == 0 || !recorder_checks_libraries())
         return;
     enter_stubs();

@@ -56,10 +56,10 @@
 #define PRODUCT(count, size) product((size_t)(count), (size_t)(size))
 #define BEGINS(path, environment)                                                                                      \
     const struct target target = {path, 0, true, environment};                                                         \
-    bool is_expected = HAS_HOOK(child_becoming) && asancol_hooks.child_becoming(&target)
+    bool is_expected = ask_child_becoming(&target)
 #define HAS_BEGUN(child)                                                                                               \
     if (is_expected)                                                                                                   \
-        asancol_hooks.child_number(DONE && (child) != NULL ? *(child) : 0)
+        note_child_number(DONE && (child) != NULL ? *(child) : 0)
 #define HAS_ENDED(child, status) note_ended((int)(child), status)
 #define NAMES_THREAD(thread, name) note_thread_name(thread, name)
 #define ALLOCATES note_called_from(call.caller)

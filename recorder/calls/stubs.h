@@ -6,6 +6,7 @@
 
 #include <stddef.h>
 
+#include "calls/hook_page.h"
 #include "shadow/shadow.h"
 
 #define TEXT_OF(word) #word

@@ -3,19 +3,14 @@
 #include "interface/hooks.h"
 #include "process/given.h"
 
-static bool is_there(uintptr_t start, size_t size)
-{
-    return !HAS_HOOK(is_there) || asancol_hooks.is_there(start, size);
-}
-
 bool call_is_there(const volatile void *start, size_t size)
 {
-    return is_there((uintptr_t)start, size);
+    return ask_is_there((uintptr_t)start, size);
 }
 
 size_t call_text_there(const char *text)
 {
-    return given_text_length(text, is_there);
+    return given_text_length(text, ask_is_there);
 }
 
 /* A freed block may be gone from memory, and is bad all the same. What would lie in one of the recorder's maps is

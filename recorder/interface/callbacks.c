@@ -15,10 +15,9 @@ const char asancol_checks = 1;
 /* Before the constructors of the object, and those of the program if it is loaded with that. */
 __attribute__((constructor(101))) static void say_that_checks_are_here(void)
 {
-    if (HAS_HOOK(found_checks))
-        asancol_hooks.found_checks();
-    else if (!HAS_HOOKS)
-        foreign_note();
+    note_found_checks();
+    if (!HAS_HOOKS)
+        foreign_note(HAS_ANY_HOOKS);
 }
 #endif
 
@@ -142,26 +141,22 @@ CALLBACK void __asan_version_mismatch_check_v8(void)
 
 CALLBACK void __asan_before_dynamic_init(const char *module)
 {
-    if (HAS_HOOK(before_init))
-        asancol_hooks.before_init(module);
+    note_before_init(module);
 }
 
 CALLBACK void __asan_after_dynamic_init(void)
 {
-    if (HAS_HOOK(after_init))
-        asancol_hooks.after_init();
+    note_after_init();
 }
 
 /* By -fsanitize=pointer-compare and pointer-subtract. */
 
 CALLBACK void __sanitizer_ptr_cmp(uintptr_t one, uintptr_t other)
 {
-    if (HAS_HOOK(pair))
-        asancol_hooks.pair(one, other, CALLER());
+    note_pair(one, other, CALLER());
 }
 
 CALLBACK void __sanitizer_ptr_sub(uintptr_t one, uintptr_t other)
 {
-    if (HAS_HOOK(pair))
-        asancol_hooks.pair(one, other, CALLER());
+    note_pair(one, other, CALLER());
 }

@@ -10,7 +10,7 @@ CALLBACK int __asan_option_detect_stack_use_after_return;
 #ifdef IN_SHARED_OBJECT
 void fake_frames_begin(void)
 {
-    __asan_option_detect_stack_use_after_return = HAS_HOOK(takes_frames) ? *asancol_hooks.takes_frames : FRAMES_NEVER;
+    __asan_option_detect_stack_use_after_return = HAS_HOOKS ? *asancol_hooks.takes_frames : FRAMES_NEVER;
 }
 #endif
 
@@ -18,7 +18,7 @@ void fake_frames_begin(void)
 static uintptr_t take_if_given(unsigned class, uintptr_t real)
 {
     if (LIKELY(__asan_option_detect_stack_use_after_return != FRAMES_REFUSED))
-        return take_frame(class, real);
+        return ask_fake_frame(class, real);
     __atomic_store_n(&__asan_option_detect_stack_use_after_return, FRAMES_NEVER, __ATOMIC_RELAXED);
     note_skipped(SKIPPED_RETURNS);
     return 0;
@@ -33,12 +33,12 @@ static uintptr_t take_if_given(unsigned class, uintptr_t real)
     CALLBACK uintptr_t __asan_stack_malloc_always_##class(size_t size)                                                 \
     {                                                                                                                  \
         (void)size;                                                                                                    \
-        return take_frame(class, (uintptr_t)__builtin_frame_address(0));                                               \
+        return ask_fake_frame(class, (uintptr_t)__builtin_frame_address(0));                                           \
     }                                                                                                                  \
     CALLBACK void __asan_stack_free_##class(uintptr_t frame, size_t size)                                              \
     {                                                                                                                  \
         (void)size;                                                                                                    \
-        give_frame(frame, class);                                                                                      \
+        note_fake_frame_end(frame, class);                                                                             \
     }
 
 FRAMES(0)

@@ -22,11 +22,6 @@
 #include "stream/thread_list.h"
 #include "stream/side.h"
 
-static void access_from_object(enum code code, unsigned width, uint64_t address, uintptr_t caller)
-{
-    record_access(code, width, address, caller);
-}
-
 static void modules_changed(void)
 {
     library_look_again();
@@ -43,70 +38,27 @@ static void finish_at_exit(enum finish finish)
     recorder_exit(true);
 }
 
-const struct recorder_hooks asancol_hooks = {
-    .size = sizeof(struct recorder_hooks),
-    .access = access_from_object,
-    .range = record_range,
-    .regions = record_regions,
-    .called_from = heap_called_from,
-    .finish = finish_at_exit,
-    .before_exec = recorder_before_exec,
-    .exec_failed = recorder_exec_failed,
-    .modules_changed = modules_changed,
-    .set_action = signals_set_action,
-    .found_checks = recorder_module_comes,
-    .stream = &stream_page.stream,
-    .bad_range = record_bad_range,
-    .frames_left = stack_frames_left,
-    .on_death = halt_on_death,
-    .is_first_crash = halt_is_first_crash,
-    .globals = odr_globals_note,
-    .aborts = signals_note_abort,
-    .stack_switches = stack_switches,
-    .stack_begins = stack_begins,
-    .fiber_leaves = stack_fiber_leaves,
-    .fiber_comes = stack_fiber_comes,
-    .becoming = becoming_note,
-    .not_becoming = becoming_take_back,
-    .child_becoming = becoming_note_child,
-    .child_number = becoming_note_number,
-    .child_killed = becoming_note_killed,
-    .child_forked = side_note_child,
-    .library = &library,
-    .live_size = heap_live_size,
-    .heap_count = heap_count,
-    .add_hooks = heap_add_hooks,
-    .poison_count = heap_poison_count,
-    .name_thread = list_name_thread,
-    .first_of = record_first_of,
-    .bad_call = record_bad_call,
-    .called_by = heap_called_by,
-    .wrong_call = finding_note_call,
-    .poison_as = record_poison_as,
-    .takes_frames = &__asan_option_detect_stack_use_after_return,
-    .fake_take = fake_take,
-    .fake_give = fake_give,
-    .fake_current = fake_current,
-    .fake_real_of = fake_real_of,
-    .look_for_leaks_once = leaks_look_once,
-    .look_for_leaks = leaks_look_now,
-    .ignore_next_blocks = heap_ignore_next,
-    .ignore_block = heap_ignore,
-    .add_root_region = root_region_add,
-    .remove_root_region = root_region_remove,
-    .vforks = stack_vforks,
-    .deeply_bound = unchecked_note_malloc,
-    .live_start = heap_start_around,
-    .go_full = recorder_go_full,
-    .is_there = given_is_there,
-#ifndef IS_STATIC
-    .instead_of = plain_instead_of,
+#ifdef IS_STATIC
+/* There are no stubs. */
+#define plain_instead_of the_same
+
+static void *the_same(void *found, const char *name, bool is_new)
+{
+    (void)name, (void)is_new;
+    return found;
+}
 #endif
-    .skipped = side_note_skipped,
-    .leave = becoming_leave,
+
+const struct recorder_hooks asancol_hooks = {
+#define TELL_OFTEN TELL
+#define ASK_OFTEN ASK
+#define TELL(name, function, parameters, arguments) .name = function,
+#define ASK(type, name, function, otherwise, parameters, arguments) .name = function,
+#include "interface/hooks.def"
+    .is_first_crash = halt_is_first_crash,
+    .set_action = signals_set_action,
+    .stream = &stream_page.stream,
     .reports = &reports,
-    .before_init = init_order_before,
-    .after_init = init_order_after,
-    .pair = pair_look,
+    .takes_frames = &__asan_option_detect_stack_use_after_return,
     .has_threads = &threads_started,
 };

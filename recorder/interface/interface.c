@@ -193,7 +193,7 @@ INTERFACE void __asan_report_error(void *place, void *frame, void *stack, void *
 static const struct report *report_now(void)
 {
     static const struct report none = {.description = ""};
-    const struct report *now = HAS_HOOK(reports) ? asancol_hooks.reports->now() : NULL;
+    const struct report *now = HAS_HOOKS ? asancol_hooks.reports->now() : NULL;
     return now != NULL ? now : &none;
 }
 
@@ -219,7 +219,7 @@ OF_REPORT(const char *, description, now->description)
 
 INTERFACE void __asan_describe_address(void *address)
 {
-    if (HAS_HOOK(reports))
+    if (HAS_HOOKS)
         asancol_hooks.reports->describe((uintptr_t)address);
 }
 
@@ -230,7 +230,7 @@ INTERFACE const char *__asan_locate_address(void *address, char *name, size_t na
     const char *found = "heap-invalid"; /* AddressSanitizer's word for an address that it knows nothing of */
     if (name != NULL && name_size != 0)
         name[0] = 0;
-    if (HAS_HOOK(reports))
+    if (HAS_HOOKS)
         found = asancol_hooks.reports->locate((uintptr_t)address, name, name_size, &start, &length);
     if (region != NULL)
         *region = (void *)start;
@@ -243,7 +243,7 @@ static size_t stack_of(void *address, bool of_free, void **frames, size_t size, 
 {
     if (thread != NULL)
         *thread = 0;
-    return HAS_HOOK(reports) ? asancol_hooks.reports->stack_of((uintptr_t)address, of_free, (uintptr_t *)frames, size,
+    return HAS_HOOKS ? asancol_hooks.reports->stack_of((uintptr_t)address, of_free, (uintptr_t *)frames, size,
                                                                thread)
                              : 0;
 }
@@ -272,13 +272,13 @@ INTERFACE int __asan_update_allocation_context(void *address)
 
 INTERFACE void *__asan_get_current_fake_stack(void)
 {
-    return HAS_HOOK(fake_current) ? asancol_hooks.fake_current() : NULL;
+    return ask_fake_current();
 }
 
 INTERFACE void *__asan_addr_is_in_fake_stack(void *stack, void *address, void **start, void **end)
 {
     uintptr_t first, last;
-    void *real = HAS_HOOK(fake_real_of) ? asancol_hooks.fake_real_of(stack, (uintptr_t)address, &first, &last) : NULL;
+    void *real = ask_fake_real_of(stack, (uintptr_t)address, &first, &last);
     if (real != NULL && start != NULL)
         *start = (void *)first;
     if (real != NULL && end != NULL)
@@ -301,7 +301,7 @@ INTERFACE void __sanitizer_set_death_callback(void (*callback)(void))
 /* Called with the text of each report, as the process is told of it. */
 INTERFACE void __asan_set_error_report_callback(void (*callback)(const char *))
 {
-    if (HAS_HOOK(reports))
+    if (HAS_HOOKS)
         asancol_hooks.reports->set_callback(callback);
 }
 
@@ -339,19 +339,19 @@ INTERFACE int __lsan_is_turned_off(void)
 
 INTERFACE void __sanitizer_set_report_path(const char *path)
 {
-    if (HAS_HOOK(reports))
+    if (HAS_HOOKS)
         asancol_hooks.reports->set_path(path);
 }
 
 INTERFACE void __sanitizer_set_report_fd(void *descriptor)
 {
-    if (HAS_HOOK(reports))
+    if (HAS_HOOKS)
         asancol_hooks.reports->set_descriptor((int)(uintptr_t)descriptor);
 }
 
 INTERFACE const char *__sanitizer_get_report_path(void)
 {
-    return HAS_HOOK(reports) ? asancol_hooks.reports->path() : "";
+    return HAS_HOOKS ? asancol_hooks.reports->path() : "";
 }
 
 INTERFACE void __sanitizer_report_error_summary(const char *summary)
@@ -361,7 +361,7 @@ INTERFACE void __sanitizer_report_error_summary(const char *summary)
 
 INTERFACE void __sanitizer_print_stack_trace(void)
 {
-    if (HAS_HOOK(reports))
+    if (HAS_HOOKS)
         asancol_hooks.reports->print_stack(CALLER());
 }
 
@@ -404,7 +404,7 @@ INTERFACE int __sanitizer_get_module_and_offset_for_pc(void *place, char *path, 
     char none[1];
     uintptr_t found = 0;
     bool has_room = path != NULL && room != 0;
-    bool is_found = HAS_HOOK(reports)
+    bool is_found = HAS_HOOKS
                     && asancol_hooks.reports->module((uintptr_t)place, has_room ? path : none,
                                                      has_room ? room : sizeof none, &found);
     if (!is_found)
@@ -426,7 +426,7 @@ INTERFACE void __sanitizer_start_switch_fiber(void **save, const void *bottom, s
 
 INTERFACE void __sanitizer_finish_switch_fiber(void *save, const void **bottom, size_t *size)
 {
-    struct span before = note_fiber_comes();
+    struct span before = ask_fiber_comes();
     (void)save;
     if (bottom != NULL)
         *bottom = (const void *)before.low;
@@ -438,13 +438,7 @@ INTERFACE void __sanitizer_finish_switch_fiber(void *save, const void **bottom, 
 
 static size_t live_size(const volatile void *start)
 {
-    bool is_asked = start != NULL && HAS_HOOK(live_size);
-    return is_asked ? asancol_hooks.live_size((void *)(uintptr_t)start) : SIZE_MAX;
-}
-
-static struct heap_numbers numbers(void)
-{
-    return HAS_HOOK(heap_count) ? asancol_hooks.heap_count() : (struct heap_numbers){0};
+    return start != NULL ? ask_live_size((void *)(uintptr_t)start) : SIZE_MAX;
 }
 
 INTERFACE size_t __sanitizer_get_estimated_allocated_size(size_t size)
@@ -480,23 +474,23 @@ INTERFACE size_t __sanitizer_get_allocated_size_fast(const volatile void *start)
 
 INTERFACE const void *__sanitizer_get_allocated_begin(const void *inside)
 {
-    return HAS_HOOK(live_start) ? (const void *)asancol_hooks.live_start((uintptr_t)inside) : NULL;
+    return (const void *)ask_live_start((uintptr_t)inside);
 }
 
 INTERFACE size_t __sanitizer_get_current_allocated_bytes(void)
 {
-    return numbers().live_bytes;
+    return ask_heap_count().live_bytes;
 }
 
 INTERFACE size_t __sanitizer_get_heap_size(void)
 {
-    return numbers().system_bytes;
+    return ask_heap_count().system_bytes;
 }
 
 /* With what is in quarantine. */
 INTERFACE size_t __sanitizer_get_free_bytes(void)
 {
-    struct heap_numbers now = numbers();
+    struct heap_numbers now = ask_heap_count();
     return now.system_bytes > now.live_bytes ? now.system_bytes - now.live_bytes : 0;
 }
 
@@ -513,7 +507,7 @@ INTERFACE int __sanitizer_install_malloc_and_free_hooks(void (*after_malloc)(con
                                                         void (*before_free)(const volatile void *))
 {
     struct heap_hooks hooks = {after_malloc, before_free, NULL, false};
-    return HAS_HOOK(add_hooks) ? asancol_hooks.add_hooks(hooks) : 0;
+    return ask_add_hooks(hooks);
 }
 
 /* A program may define these three, and then they are called. */
@@ -602,41 +596,35 @@ INTERFACE void __sanitizer_weak_hook_memmem(void *place, const void *one, size_t
 
 INTERFACE void __lsan_disable(void)
 {
-    if (HAS_HOOK(ignore_next_blocks))
-        asancol_hooks.ignore_next_blocks(true);
+    note_ignore_next_blocks(true);
 }
 
 INTERFACE void __lsan_enable(void)
 {
-    if (HAS_HOOK(ignore_next_blocks))
-        asancol_hooks.ignore_next_blocks(false);
+    note_ignore_next_blocks(false);
 }
 
 INTERFACE void __lsan_ignore_object(const void *object)
 {
-    if (HAS_HOOK(ignore_block))
-        asancol_hooks.ignore_block(object);
+    note_ignore_block(object);
 }
 
 INTERFACE void __lsan_register_root_region(const void *start, size_t size)
 {
-    if (HAS_HOOK(add_root_region))
-        asancol_hooks.add_root_region(start, size);
+    note_add_root_region(start, size);
 }
 
 INTERFACE void __lsan_unregister_root_region(const void *start, size_t size)
 {
-    if (HAS_HOOK(remove_root_region))
-        asancol_hooks.remove_root_region(start, size);
+    note_remove_root_region(start, size);
 }
 
 INTERFACE void __lsan_do_leak_check(void)
 {
-    if (HAS_HOOK(look_for_leaks_once))
-        asancol_hooks.look_for_leaks_once();
+    note_look_for_leaks_once();
 }
 
 INTERFACE int __lsan_do_recoverable_leak_check(void)
 {
-    return HAS_HOOK(look_for_leaks) && asancol_hooks.look_for_leaks();
+    return ask_look_for_leaks();
 }

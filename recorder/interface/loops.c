@@ -15,7 +15,7 @@ static inline uint64_t most_bytes(uint64_t instructions)
 
 static inline uint64_t strip(void)
 {
-    bool is_alone = HAS_HOOK(has_threads) && !atomic_load_explicit(asancol_hooks.has_threads, memory_order_relaxed);
+    bool is_alone = HAS_HOOKS && !atomic_load_explicit(asancol_hooks.has_threads, memory_order_relaxed);
     return is_alone ? STRIP_ALONE : STRIP_BESIDE_OTHERS;
 }
 

@@ -120,16 +120,6 @@ static bool note_exec(const struct target *target, const char *found)
     return failed == 0 || is_noted;
 }
 
-bool becoming_note(const struct target *target)
-{
-    char room[PATH_MAX];
-    bool may_be;
-    _Atomic uint64_t *calls = side_begin_calls(true);
-    bool is_noted = recorder_hub() != NULL && note_exec(target, path_of(target, room, &may_be));
-    side_end_calls(calls);
-    return is_noted;
-}
-
 /* Without a hub nobody needs the path: then it costs less to leave in vain than to look for a file. */
 unsigned becoming_leave(const struct target *target)
 {

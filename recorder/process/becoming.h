@@ -17,10 +17,8 @@ struct target {
     char *const *environment;
 };
 
-/* Before an exec. False: there is nothing to take back. */
-bool becoming_note(const struct target *target);
-/* Likewise, and leaves the recording. Answers what is to be taken back if the exec fails, which may be nothing: so it
-   is where the system finds no such file. */
+/* Before an exec: leaves the recording too. Answers what is to be taken back if the exec fails, which may be nothing:
+   so it is where the system finds no such file. */
 unsigned becoming_leave(const struct target *target);
 enum { LEFT_RECORDING = 1, LEFT_WORD = 2 };
 /* The exec has failed. */

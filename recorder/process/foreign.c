@@ -10,11 +10,14 @@
 #include "process/orphan.h"
 #include "process/unseen.h"
 
+#define NO_RECORDER ", which was built by asancol-cc, and was not built so itself"
+#define OTHER_RELEASE ", which was built by asancol-cc of another release: build both with one"
+
 enum { WHY_ROOM = 320, MAX_NAME_LENGTH = 200 };
 
 extern const char asancol_checks;
 
-void foreign_note(void)
+void foreign_note(bool has_another)
 {
     char why[WHY_ROOM];
     Dl_info object;
@@ -23,11 +26,12 @@ void foreign_note(void)
     bool is_named = dladdr(&asancol_checks, &object) != 0 && object.dli_fname != NULL;
     joined_add(&joined, "it loaded ", sizeof why);
     joined_add(&joined, is_named ? object.dli_fname : "a library", MAX_NAME_LENGTH);
-    joined_add(&joined, ", which was built by asancol-cc, and was not built so itself", sizeof why);
+    joined_add(&joined, has_another ? OTHER_RELEASE : NO_RECORDER, sizeof why);
     beginning.is_set_user = getauxval(AT_SECURE);
     bool has_hub = hub != NULL && *hub != 0;
-    joined_add(&joined, has_hub ? "; --preload records it" : "; its environment was cleaned, of LD_PRELOAD too",
-               sizeof why);
+    if (!has_another)
+        joined_add(&joined, has_hub ? "; --preload records it" : "; its environment was cleaned, of LD_PRELOAD too",
+                   sizeof why);
     if (has_hub)
         unseen_note(hub, why);
     else

@@ -1,10 +1,12 @@
-/* A shared object of asancol-cc in a program that has no recorder. */
+/* A shared object of asancol-cc in a program that has no recorder, or that of another release. */
 #ifndef ASANCOL_FOREIGN_H
 #define ASANCOL_FOREIGN_H
 
 #include "base/platform.h"
 
+#include <stdbool.h>
+
 /* Leaves word with the hub that the object is not recorded. */
-void foreign_note(void) OWN_NAME(foreign_note);
+void foreign_note(bool has_another) OWN_NAME(foreign_note);
 
 #endif

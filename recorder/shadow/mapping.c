@@ -127,7 +127,10 @@ static const char *map_hook_page(void)
     ((struct hook_page *)at)->program = own_code;
 #endif
     library_find(at);
-    ((struct hook_page *)at)->hooks = &asancol_hooks;
+    struct hook_page *page = at;
+    page->hooks = &asancol_hooks;
+    page->functions = &library;
+    page->release = RELEASE;
 #endif
     system_mprotect(at, PAGE, PROT_READ);
     return NULL;

@@ -18,8 +18,9 @@
 #include <stddef.h>
 #include <stdint.h>
 
-#include "common/format.h"
 #include "base/platform.h"
+#include "calls/hook_page.h"
+#include "common/format.h"
 
 /* Where the maps lie: free in all layouts of a process on x86-64. Programs lie from 0x5555.. on, or below 2^32;
    libraries and stacks below 2^47; with an unlimited stack libraries lie below 0x1555.., and in the old layout
@@ -37,25 +38,8 @@
 /* and `stated` is from 2^46 up to 5 * 2^44. */
 #define STATED_START ((uint64_t)1 << 46)
 
-/* After them comes a page that every object of the process finds: no symbol has to be exported or found for it. In the
-   assembly of stubs.h it is a number. */
-#define HOOK_PAGE_START 0x500000000000
+/* After them comes the hook page. */
 _Static_assert((uint64_t)HOOK_PAGE_START == STATED_START + SHADOW_BYTES, "it follows the maps");
-
-struct recorder_hooks;
-
-struct code_range {
-    uintptr_t start, size;
-};
-
-struct hook_page {
-    const struct recorder_hooks *hooks; /* of the program (hooks.h), or null if it has no recorder */
-    /* The code whose functions are checked when they are called: the C library's, what the system has of it, and that
-       of its mathematics (library.c). Zeros if no call is checked. */
-    struct code_range library, system, mathematics;
-    /* The program's, whose functions may have any name. */
-    struct code_range program;
-};
 
 /* The codes of granules without an addressable byte. Which of them it is matters to nobody but for the kind of the
    poison that the stream gets. */

@@ -48,7 +48,6 @@ struct stream {
     /* Below this offset bytes can be stored. Released once the file or the memory is there, acquired before a store. */
     _Atomic uint64_t ready;
     unsigned char *bytes; /* where offsets count from: the windows of streams (windows.h). A part of the plan. */
-    uint64_t unused;      /* shared objects know where the next one lies */
     /* Relaxed: hints, by which a bad access of a stream that is off is looked at or not. */
     _Atomic bool is_idle;    /* nothing is recorded, and nothing will be */
     _Atomic bool is_watched; /* each access is looked at for a fault, or by the clock */
@@ -56,8 +55,6 @@ struct stream {
     _Atomic unsigned window; /* in which the stream lies: another one from segment to segment */
     _Atomic unsigned segment; /* grows before the window changes, of which there are few */
 };
-
-_Static_assert(offsetof(struct stream, is_idle) == 40, "shared objects of older recorders find it");
 
 /* Alone in its page, which is all zeros in a child after any kind of fork: there it is off. */
 extern union stream_page {
