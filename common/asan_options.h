@@ -16,7 +16,7 @@ enum asan_option {
     ASAN_UNKNOWN
 };
 
-/* What becomes of them: the first letter of each row. */
+/* What happens to them: the first letter of each row. */
 enum asan_fate {
     ASAN_IS_UNKNOWN = 0,
     ASAN_IS_RUN = 'R',

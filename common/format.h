@@ -111,7 +111,7 @@ enum finding_kind {
     FINDING_NOT_OWNED,     /* it is asked how large a block is, and none begins there */
     FINDING_OTHER_ALIGNMENT, /* a delete says another alignment than the new of its block, and maybe another size */
     FINDING_CONTAINER,     /* the bytes in use of a container are said to lie outside it */
-    FINDING_DOUBLE_ENDED,  /* likewise of one with two ends */
+    FINDING_DOUBLE_ENDED,  /* the same for one with two ends */
     FINDING_POINTERS,      /* two pointers into different objects are compared, or one is subtracted from the other */
     FINDING_NO_MEMORY,     /* there is none for a block */
     FINDING_ODR            /* two modules have defined one global */
@@ -120,9 +120,9 @@ enum { FINDING_LAST = FINDING_ODR };
 
 enum { SIDE_ARGV = 4000, SIDE_BUILD_COUNT = 112, SIDE_ID = 23, SIDE_FAULTS = 1 << 16, SIDE_THREADS = 1 << 12 };
 enum { SIDE_NAME = 120, SIDE_CALL = 32, SIDE_THREAD_NAME = 16, SIDE_CHILDREN = 32 };
-/* The shadow round a bad byte: its row, and so many before and after it. */
+/* The shadow around a bad byte: its row, and this many rows before and after it. */
 enum { SIDE_ROW = 16, SIDE_ROWS_BESIDE = 5, SIDE_SHADOW = SIDE_ROW * (2 * SIDE_ROWS_BESIDE + 1) };
-/* Where its parts begin, but for the first: */
+/* Where its parts begin, except the first: */
 enum { SIDE_BUILDS = 4096, SIDE_PROGRESS = 7680, SIDE_SETTINGS = 8128, SIDE_BESIDE_THREADS = 8160, SIDE_MAPS = 8192 };
 enum { SIDE_INDEX = 1 << 18, SIDE_INDEX_ENTRY = 4 };
 /* In an entry of the index: the event is a further piece of an access that has this fault, and not one by itself. */
@@ -138,7 +138,7 @@ enum { SIDE_TEXT = 1 << 12 };
 #define SIDE_STACK_WORDS ((uint32_t)1 << 22)
 #define SIDE_ROOM (SIDE_STACKS_AT + SIDE_STACK_WORDS * sizeof(uint64_t))
 
-/* So many files of modules may come after the descriptor of the memory: the program, and shared objects. */
+/* Up to this many files of modules may come after the descriptor of the memory: the program, and shared objects. */
 enum { SIDE_FILES = 7 };
 
 /* How a signal has come: these are added. */

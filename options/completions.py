@@ -98,7 +98,7 @@ def names_of(options: List[Option]) -> List[str]:
 
 
 def folded(words: List[str], front: str, joint: str, fold: str, width: int = 118) -> List[str]:
-    """Returns words in lines of at most so many columns, each but the last with what it is folded by."""
+    """Returns words in lines of at most this many columns, each but the last with what it is folded by."""
     lines = [front]
     for position, word in enumerate(words):
         piece = word + (joint if position + 1 < len(words) else "")

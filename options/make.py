@@ -7,7 +7,7 @@ usage: options/make.py [--check [ASANCOL]]
 With --check nothing is written: a line is printed for each file that is not what would be written, and for each option
 of ASANCOL whose help is not that of the table. The status is 1 if there is one. table.py says what a table has.
 
-What is made is committed: who builds the programs needs no Python for it, and who changes a table sees what becomes of
+What is made is committed: who builds the programs needs no Python for it, and who changes a table sees what happens to
 it. The options of asancol are read by a proved crate, which has its help too: both are compared, and not made.
 """
 

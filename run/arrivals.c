@@ -3,7 +3,7 @@
 
 #include <sys/epoll.h>
 
-/* So many are found in one call. */
+/* The most that are found in one call. */
 enum { MOST_FOUND = 64 };
 
 static int watched = -1;      /* an epoll */

@@ -1,4 +1,4 @@
-/* ASAN_OPTIONS and LSAN_OPTIONS in our own environment: common/asan_options.def says what becomes of each option. What
+/* ASAN_OPTIONS and LSAN_OPTIONS in our own environment: common/asan_options.def says what happens to each option. What
    the recorder takes it reads by itself, from the environment of each process. */
 #ifndef ASANCOL_RUN_ASAN_H
 #define ASANCOL_RUN_ASAN_H

@@ -22,7 +22,7 @@ struct strings checkers_words(void);
 bool checker_take_text(struct segment *segment, const char *text, size_t length, int status);
 /* Whether what it has sent is a question, which comes before those bytes. It is answered. */
 bool checker_answers(struct segment *segment);
-/* Checks a trace that is in a file. Likewise. */
+/* Checks a trace that is in a file. The same. */
 bool checker_start_file(struct segment *segment);
 /* Judges all segments of a process again, at its end, and says what has changed. */
 void checker_sum_up(struct process *process);

@@ -14,7 +14,7 @@ enum death {
 
 /* Notes how a process has ended that waitpid has given to us. */
 void death_note(pid_t number, int status);
-/* Likewise, as a parent has said that has waited for it. */
+/* The same, as a parent has said that has waited for it. */
 void death_note_of_parent(pid_t number, int status);
 /* What is known of a process, by its number here, and how it ended, as of waitpid. A number that another process has by
    now reads as one that still runs. */

@@ -16,11 +16,11 @@ bool folder_is_open_to_all(const char *base);
 bool folder_make(const char *base, char *path, size_t room);
 /* Others may connect to a socket in it. */
 bool folder_open_socket(const char *name);
-/* Likewise, and gives it another name. */
+/* The same, and gives it another name. */
 bool folder_give_name(const char *before, const char *name);
 /* What is in it; null: there is no folder. */
 DIR *folder_entries(void);
-/* What has become of it, as "removed"; null: it is there, or there is none. */
+/* What has happen to it, as "removed"; null: it is there, or there is none. */
 const char *folder_lost(void);
 /* Removes it with what runs put there, and nothing else. */
 void folder_remove(void);

@@ -13,7 +13,7 @@
 
 /* How many seconds one may live without a checker. */
 static const double PATIENCE = 0.2;
-/* So many events are taken in one call. */
+/* The most events that are taken in one call. */
 enum { EVENTS = 64 };
 
 struct held {

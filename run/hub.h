@@ -20,7 +20,7 @@ size_t hub_public_length(void);
 const char *hub_folder(void);
 /* Their descriptors; -1 is one that is not there. */
 const int *hub_listeners(void);
-/* Likewise, of those where a process asks (asking.h). */
+/* The same for those where a process asks (asking.h). */
 const int *hub_asked(void);
 /* The next connection, and who has made it. -1: there is none, errno says why. */
 struct ucred;

@@ -17,7 +17,7 @@
 #include "printable.h"
 #include "say.h"
 
-/* So many names are tried for a file. */
+/* The most names that are tried for a file. */
 enum { MAX_NAMES = 100000 };
 
 static const char *folder;

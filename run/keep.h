@@ -13,7 +13,7 @@ int keep_start(struct segment *segment);
 void keep_file(struct segment *segment);
 /* Removes the trace if nobody needs it, or puts the side memory beside it. */
 void keep_end(struct segment *segment, bool is_needed);
-/* Likewise, at the end: writes what has changed since. */
+/* The same, at the end: writes what has changed since. */
 void keep_again(struct segment *segment, bool is_needed);
 
 #endif

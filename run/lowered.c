@@ -10,7 +10,7 @@
 #include "say.h"
 #include "segments.h"
 
-/* What several processes have in common is one line, and there are no more than so many. */
+/* What several processes have in common is one line, and there are at most this many. */
 enum { MAX_LINES = 16 };
 
 struct line {

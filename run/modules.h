@@ -14,7 +14,7 @@ struct modules {
     size_t count;
 };
 
-/* No more than so many are held. */
+/* The most that are held. */
 void modules_allow(size_t most);
 /* Takes descriptors, which are closed here if they are of no use: what is no file, or what is held already. */
 void modules_take(struct modules *modules, const int *descriptors, size_t count);

@@ -27,13 +27,13 @@ _Static_assert(MAX_OF_QUARANTINE == MAX_QUARANTINE && DEFAULT_OF_QUARANTINE == Q
 
 static const char help[] = OPTION_HELP;
 
-/* What becomes of an option. */
+/* What happens to an option. */
 enum action {
     SET_FLAG,    /* a bool at the offset */
     SET_NUMBER,  /* a uint64_t, in the range */
     SET_SECONDS, /* a double, in the range of thousandths */
     SET_OUTPUT,  /* the name of a file, with its marks expanded */
-    SET_FOLDER,  /* likewise */
+    SET_FOLDER,  /* the same */
     SET_INPUT,   /* as it is */
     PASS_CHECK,  /* a number in the range, for the checker */
     PASS_FLAG,   /* a word for the report, and a bool if there is an offset */

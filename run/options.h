@@ -9,7 +9,7 @@
 #include "common/strings.h"
 #include "unchecked.h"
 
-/* What becomes of leaks: they are summed up, nobody looks for them, or each place is a report. */
+/* What happens to leaks: they are summed up, nobody looks for them, or each place is a report. */
 enum leaks { LEAKS_SUMMARY, LEAKS_NO, LEAKS_YES };
 
 struct options {

@@ -10,7 +10,7 @@ enum answer {
     INCOMPLETE,
     COMPLETE,
     UP_TO_THERE, /* complete: its recorder did not see its end, and what it did up to there was seen all the same */
-    BEFORE_MAIN, /* incomplete: likewise, and what it is for was not seen */
+    BEFORE_MAIN, /* incomplete: the same, and what it is for was not seen */
     UNCHECKED    /* incomplete since it has no checks, and for no other reason */
 };
 

@@ -9,7 +9,7 @@
 
 /* How many bytes the character has that begins here, and its number; 0 if they are not UTF-8, as at the end. */
 size_t character_length(const char *at, uint32_t *number);
-/* Likewise, if it is printed as it is; else 0. */
+/* The same, if it is printed as it is; else 0. */
 size_t printable_length(const char *at);
 /* The text with what cannot be printed escaped. The caller frees it. */
 char *printable(const char *text);

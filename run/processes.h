@@ -21,7 +21,7 @@ enum stage {
 /* How it was cut short. */
 enum cut { CUT_NONE, CUT_BY_WAIT, CUT_BY_TIMEOUT };
 
-/* A connection or a file, and what has become of it. It stays up to the end of the run, so it is packed. */
+/* A connection or a file, and what has happen to it. It stays up to the end of the run, so it is packed. */
 struct segment {
     struct process *process;      /* whose it is */
     struct segment *next;         /* the one after it, of those of its process that have come; or null */
@@ -30,7 +30,7 @@ struct segment {
     enum stage stage;
     enum cut cut;
     int connection, side_memory, verdicts; /* descriptors; -1: there is none */
-    int aside;                             /* likewise: all of its stream, in place of the connection */
+    int aside;                             /* the same: all of its stream, in place of the connection */
     const struct side *side;               /* or null, as from when the outcome is settled */
     struct modules modules;                /* until it is done */
     pid_t checker, tee;                    /* 0: it does not run */
@@ -58,7 +58,7 @@ enum source {
     SOURCE_HUB,    /* it has connected, or left a trace in the folder of the run */
     SOURCE_FILES,  /* files alone: asancol-run has not run it */
     SOURCE_UNSEEN, /* only that it was not recorded, and why */
-    SOURCE_WORD    /* likewise, and it has said so itself by a mark in the folder */
+    SOURCE_WORD    /* the same, and it has said so itself by a mark in the folder */
 };
 
 struct process {
@@ -107,7 +107,7 @@ void process_set_peer(struct process *process, pid_t peer);
 /* The first to connect of those of this number, and the one after another of these; or null. */
 struct process *process_of_peer(pid_t peer);
 struct process *process_next_of_peer(const struct process *process);
-/* Likewise, of those that know themselves by this number, where the system has another one for us. */
+/* The same for those that know themselves by this number, where the system has another one for us. */
 struct process *process_of_own_number(int number);
 struct process *process_next_of_own_number(const struct process *process);
 /* Takes settings from the side memory of a segment, if it has one; and name and numbers of its process, if that has

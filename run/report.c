@@ -222,8 +222,8 @@ static void put_file(FILE *to, const char *name, const char *path)
     json_text(to, path);
 }
 
-/* What is known of a process; and of its segments the one whose descriptors come with it, if that is not null. So many
-   of these are files of modules. */
+/* What is known of a process; and of its segments the one whose descriptors come with it, if that is not null. This
+   many of these are files of modules. */
 static void put_process(FILE *to, struct process *process, const struct segment *segment, size_t files)
 {
     struct outcome joined = segments_joined(process);

@@ -24,7 +24,7 @@ bool say_close(void);
 /* Prints "asancol-run: OF: WHAT" on standard error, and ends. */
 _Noreturn void fail(int status, const char *of, const char *what);
 
-/* The end of a word of which there are so many, or none if there is one. */
+/* The plural ending of a word for this number, or none for one. */
 const char *plural(uint64_t count, const char *end);
 
 /* Seconds since some moment. */

@@ -8,7 +8,7 @@
 #include "say.h"
 #include "verdict.h"
 
-/* No process has so many segments: a greater number is none. */
+/* No process has this many segments: a greater number is invalid. */
 #define MAX_SEGMENTS ((uint64_t)1 << 32)
 
 /* Processes by what their side memory says of them: at least as many buckets as processes. */

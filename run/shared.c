@@ -18,8 +18,8 @@
 #include "end_line.h"
 #include "say.h"
 
-/* So many streams one checker takes, with a thread for each: by then its start costs little beside them. It is started
-   if for so many seconds no other one has come, or the first has waited for so many. */
+/* The most streams that one checker takes, with a thread for each: by then its start costs little beside them. It is
+   started if no other one has come for the first number of seconds, or the first one has waited for the second. */
 enum { MOST_STREAMS = 64 };
 static const double LULL = 0.1, PATIENCE = 1;
 
@@ -60,7 +60,7 @@ struct segment *shared_next_alone(void)
     return next;
 }
 
-/* Moves so many bytes, which are at hand. */
+/* Moves this many bytes, which are at hand. */
 static bool move(int from, int to, size_t size)
 {
     while (size > 0) {
@@ -94,7 +94,7 @@ static void add_waiting(struct segment *segment)
         shared_start(true);
 }
 
-/* A file that has room for so many bytes, or -1. */
+/* A file with room for this many bytes, or -1. */
 static int make_file(size_t size)
 {
     int made = ends[0] >= 0 ? memfd_create("trace", MFD_CLOEXEC) : -1;

@@ -8,7 +8,7 @@
 
 #include "processes.h"
 
-/* So many bytes of a stream are small: the header and the close. No event finds room in them. */
+/* A stream of this many bytes is small: the header and the close. No event finds room in them. */
 enum { SMALL_STREAM = HEADER_LENGTH + 1 };
 
 /* Makes what streams are moved by. False: it can't be made, and no checker is shared. */

@@ -10,9 +10,9 @@
 #include "json.h"
 #include "say.h"
 
-/* So many names are known apart, and so many are in a summary. */
+/* The most names that are kept, and the most in a summary. */
 enum { MAX_NAMES = 4096, MAX_SAID = 5 };
-/* A packet for asancol-report has at most 65,536 bytes: so many of it for the one and the other list. */
+/* A packet for asancol-report has at most 65,536 bytes: this part of it for each of the two lists. */
 enum { MAX_OWN_BYTES = 40000, MAX_SYSTEM_BYTES = 12000 };
 
 struct names {

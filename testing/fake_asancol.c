@@ -452,7 +452,7 @@ static const char *read_stream(struct input *input, uint64_t *offset)
     return input->has_failed ? "read-failed" : fate;
 }
 
-/* Prints the lines of a stream, but for the last one, which it returns. */
+/* Prints the lines of a stream, except the last one, which it returns. */
 static char *check_stream(unsigned process, int descriptor)
 {
     struct input input = {.descriptor = descriptor};

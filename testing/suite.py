@@ -1,7 +1,7 @@
 """A suite of tests: which there are, which of them are run, and what came of each.
 
 A folder's tests are found in its modules: what a module's function `tests` adds by `suite.test(NAME, FUNCTION, ..)`, a
-test for each compiler, level or row, and but for the recorder's each function under `@test`, with its own name. All run
+test for each compiler, level or row, and except the recorder's each function under `@test`, with its own name. All run
 side by side, one on each processor, each in its own folder. What several of them need, such as a built program, is
 `Later`: it is made once, before them, and only if one of them was chosen.
 """

@@ -246,7 +246,7 @@ def are_installed(_: str) -> None:
 # What a test needs whose program has to print its help, which a fake does not.
 HELP = "--help"
 
-# Name, what it does with a built asancol, and what it needs: programs, but for the above.
+# Name, what it does with a built asancol, and what it needs: programs, except the above.
 TESTS: List[Tuple[str, Callable[[str], None], Tuple[str, ...]]] = [
     ("options", tables_are_made, (HELP,)),
     ("options: mistakes", mistakes_are_refused, ()),

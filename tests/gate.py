@@ -91,7 +91,7 @@ def lowest_first(listed: Dict[str, List[str]]) -> List[str]:
 
 class Steps:
     """Commands, one after another until one fails: how many tests passed and failed so far. Each
-    command's lines go to `say`, but for the counts in its last one, and to `see` at once. What they
+    command's lines go to `say`, except the counts in its last one, and to `see` at once. What they
     read is `given`."""
 
     def __init__(

@@ -8,7 +8,7 @@ failure. The last line is 'N passed, N failed, N skipped', and the status is 1 i
 
 - clang-format: the lines of C that differ from COMMIT, which is where the branch left main if none is given, are laid
   out as .clang-format says.
-- cppcheck: no fault that it knows, but for what tests/cppcheck.txt lists.
+- cppcheck: no fault that it knows, except what tests/cppcheck.txt lists.
 - shellcheck: all shell scripts.
 - pyflakes: all Python. ruff is taken for it if that is there.
 - mypy: the types of all Python, as pyproject.toml asks.

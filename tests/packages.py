@@ -172,7 +172,7 @@ class Root:
         must(["dpkg", f"--root={self.folder}", forced, "--log=/dev/null", *argv])
 
     def files(self) -> List[str]:
-        """Returns the paths of all that is there but for what dpkg notes of itself."""
+        """Returns the paths of all that is there except what dpkg notes of itself."""
         found = []
         for at, folders, names in os.walk(self.folder):
             place = os.path.relpath(at, self.folder)

@@ -18,7 +18,7 @@ enum { ACTION_FLAGS = SA_SIGINFO | SA_ONSTACK | SA_RESTART };
 
 /* Sets an action, and says which there was before; either may be null. Returns an error below zero. */
 int action_set(int number, const struct system_action *action, struct system_action *old);
-/* Likewise a handler, which runs with these signals blocked. */
+/* The same for a handler, which runs with these signals blocked. */
 int action_handle(int number, void (*handler)(int, siginfo_t *, void *), uint64_t mask, struct system_action *old);
 
 #endif

@@ -7,7 +7,7 @@
 /* For a zero after as many digits as a number may have, and something before them. */
 enum { DIGITS_ROOM = 24 };
 
-/* Puts the digits of a number, as many as these at least, before the end of a text, and a zero after them. Answers
+/* Puts the digits of a number, at least this many, before the end of a text, and a zero after them. Answers
    where they begin. */
 static inline char *put_digits(char *end, uint64_t number, unsigned least)
 {

@@ -21,10 +21,10 @@ struct known_page {
     uintptr_t start;
 };
 
-/* Whether so many bytes can be read: the system is asked once for each page. Nothing is in page 0, and nothing beyond
+/* Whether this many bytes can be read: the system is asked once for each page. Nothing is in page 0, and nothing beyond
    the end of addresses. No more than what the system says now, so not for memory that another thread gives back. */
 bool memory_is_there(struct known_page *known, uintptr_t address, size_t size);
-/* Likewise for pages from this address to that, by one call. False: the system does not say so. */
+/* The same for pages from this address to that, by one call. False: the system does not say so. */
 bool memory_is_all_there(uintptr_t start, uintptr_t end);
 
 #endif

@@ -1,5 +1,5 @@
 /* The functions of <string.h> and <wchar.h> that the recorder calls, and those that the compilers call by themselves,
-   as to copy a structure. A program may have such names for its own functions. So the build gives them the front
+   such as to copy a structure. A program may have such names for its own functions. So the build gives them the front
    `asancol_own_` in each of our objects (Makefile), and in this one where they are defined.
 
    Wrapped functions that a check calls for the program are apart from these: they are `__real_` and the name. */
@@ -26,7 +26,7 @@ int *__errno_location(void)
 /* Without this a compiler may see in a loop the very function that it is to be. */
 #define STEP_BY_STEP __asm__ volatile("" : : : "memory")
 
-/* From so many bytes on the processor's own instruction is the quickest. */
+/* From this many bytes on the processor's own instruction is the fastest. */
 enum { MANY = 512, BLOCK = sizeof(__m128i) };
 
 /* Fewer than BLOCK bytes, as two pieces that may have bytes in common: both are read before one is written. */

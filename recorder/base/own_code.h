@@ -7,7 +7,7 @@
 #include <stddef.h>
 #include <stdint.h>
 
-/* Likewise for a function among the recorder's own that touches memory for the program, as its C library would: a
+/* The same for a function among the recorder's own that touches memory for the program, as its C library would: a
    fault there is the program's. */
 #define OF_PROGRAM __attribute__((noinline, section(".text.of_program")))
 

@@ -10,7 +10,7 @@
 
 /* Symbols that the program, or a shared object of it, finds in the recorder. All others are hidden. */
 #define VISIBLE __attribute__((visibility("default")))
-/* Likewise, unless the program or a library before it has the name itself. The linked objects keep these names
+/* The same, unless the program or a library before it has the name itself. The linked objects keep these names
    (Makefile). */
 #define REPLACES VISIBLE __attribute__((weak))
 /* For what several members of an archive use: a program may have the name itself. */

@@ -290,7 +290,7 @@ SYSTEM_CALL int system_clock_gettime(clockid_t clock, struct timespec *now)
     return (int)system_call3(SYS_clock_gettime, clock, (long)now, 0);
 }
 
-/* Waits while the word has this value, or wakes so many that wait. */
+/* Waits while the word has this value, or wakes up to this many waiting threads. */
 SYSTEM_CALL int system_futex(_Atomic uint32_t *word, int operation, uint32_t value)
 {
     return (int)system_call4(SYS_futex, (long)word, operation, (long)value, 0);

@@ -24,7 +24,7 @@ struct call {
 /* Always, so that the name of a call is looked for only if the call is bad. */
 #define INLINED static inline __attribute__((always_inline))
 
-/* Records the bad pieces of a range, of which so many of the first bytes are good. errno stays as it is. */
+/* Records the bad pieces of a range, of which this many of the first bytes are good. errno stays as it is. */
 void call_is_bad(enum code code, uintptr_t start, size_t size, size_t good, struct call call) OWN_NAME(call_is_bad);
 
 /* Notes that two ranges of a call overlap. errno stays as it is. */
@@ -44,7 +44,7 @@ INLINED bool call_is_apart(const void *to, const void *from, size_t size)
     return (uintptr_t)to - (uintptr_t)from + size - 1 >= 2 * size - 1;
 }
 
-/* Of a range, what comes after so many bytes. Nothing is bad at null. */
+/* The rest of a range after this many bytes. Nothing is bad at null. */
 INLINED void call_checks_after(enum code code, const volatile void *start, size_t size, size_t good, struct call call)
 {
     if (UNLIKELY(!shadow_is_clean((uintptr_t)start + good, size - good)))
@@ -120,7 +120,7 @@ size_t call_text_there(const char *text) OWN_NAME(call_text_there);
 /* Looks at what can be read of a text, and answers what the call is to be given. */
 void *call_gives(const char *text, struct call call) OWN_NAME(call_gives);
 
-/* formats.c: what a printf reads and writes by its format, but for its output. Nothing without a format. */
+/* formats.c: what a printf reads and writes by its format, except its output. Nothing without a format. */
 void format_checks_print(const char *format, va_list values, struct call call) OWN_NAME(format_checks_print);
 void format_checks_wide_print(const wchar_t *format, va_list values, struct call call)
     OWN_NAME(format_checks_wide_print);

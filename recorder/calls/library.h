@@ -49,7 +49,7 @@ struct library {
     int (*ferror)(FILE *stream);
     size_t (*__ctype_get_mb_cur_max)(void);
     void (*_dl_get_tls_static_info)(size_t *size, size_t *alignment); /* of the loader; null: there is none */
-    const uint32_t *_thread_db_sizeof_pthread; /* what it keeps of a thread has so many bytes; or null */
+    const uint32_t *_thread_db_sizeof_pthread; /* the size of its data of a thread; or null */
     char *(*dlerror)(void);
     void *(*dlvsym)(void *where, const char *name, const char *version);
     const int *optind; /* or null */
@@ -87,7 +87,7 @@ void library_begin(void);
 void library_find(struct hook_page *hook_page);
 /* The function of this name in the objects after the one that has the recorder, whose own one hides it; or null. */
 void *library_next(const char *name) OWN_NAME(library_next);
-/* Likewise in all objects, with the program first. Where a program only names it, it is not the program's. */
+/* The same in all objects, with the program first. Where a program only names it, it is not the program's. */
 void *library_first(const char *name);
 /* Whether a function is the C library's. */
 bool library_has(const void *function);

@@ -177,7 +177,7 @@ static bool is_checked(uintptr_t function)
            || range_has(hook_page->mathematics, function);
 }
 
-/* What becomes of calls by this name. False: they stay as they are. */
+/* What happens to calls by this name. False: they stay as they are. */
 static bool find_way(const char *name, struct way *way)
 {
     const struct stub *stub = find_stub(name);

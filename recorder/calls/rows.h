@@ -107,7 +107,7 @@
         return LIKELY(good) ? real_##name arguments : checked_all_of_##name arguments;                                 \
     }
 
-/* Likewise, after the call. */
+/* The same, after the call. */
 #define QUICK_AFTER(name, type, parameters, arguments, good, before, after)                                            \
     REAL(type, name, parameters);                                                                                      \
     STUB(name)                                                                                                         \

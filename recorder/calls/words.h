@@ -134,7 +134,7 @@ HELPER __attribute__((no_sanitize("address"))) static inline unsigned stops_in_b
     return (unsigned)_mm_movemask_epi8(goes_on) ^ ((1 << BLOCK) - 1);
 }
 
-/* How many of the first bytes are the same in both and not zero, at most so many. It ends also where a page does. */
+/* How many of the first bytes are the same in both and not zero, at most this many. It ends also where a page does. */
 HELPER static size_t same_front(const char *one, const char *other, size_t most)
 {
     size_t same = 0;
@@ -500,7 +500,7 @@ HELPER static struct request control_of(int command)
 #define READS_CONTROL(command, with) READS(with, control_of(command).read)
 #define WRITES_CONTROL(command, with) WRITES(with, control_of(command).written)
 
-/* Likewise ptrace at its last argument. */
+/* The same for ptrace at its last argument. */
 HELPER static struct request traced_of(int request)
 {
     switch (request) {

@@ -1,5 +1,5 @@
 /* The allocator, as the process calls it. Blocks are in slots of units, or in runs of units (placing.h); which of them
-   are handed out, and what becomes of them, shards.h and quarantine.h say. */
+   are handed out, and what happens to them, shards.h and quarantine.h say. */
 #define _GNU_SOURCE
 #include "heap/heap.h"
 
@@ -170,7 +170,7 @@ static void *place_block(size_t size, size_t alignment, struct origin from, cons
     return (void *)address;
 }
 
-/* Likewise in a slot, of a thread that is in its shard: so nothing is recorded. */
+/* The same in a slot, of a thread that is in its shard: so nothing is recorded. */
 static inline __attribute__((always_inline)) void *place_in_slot(struct shard *shard, size_t size, struct origin from,
                                                                  const struct use *use)
 {

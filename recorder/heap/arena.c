@@ -32,10 +32,10 @@
 
 /* For how many units notes are asked for: they then fill whole pages. */
 enum { NOTE_STEP = REGION_UNITS };
-/* By how many units memory grows: by as many as there are, within these, up to a huge page. It is poison until it is
-   handed out (poisoning.h), which takes an eighth of it in the shadow. */
+/* The number of units by which memory grows: it doubles, within these bounds, up to a huge page. It is poison until it
+   is handed out (poisoning.h), which takes an eighth of it in the shadow. */
 enum { LEAST_STEP = 4, MOST_STEP = 32 };
-/* So many units at most may be in huge pages, since between these and others the system has a limit of changes. */
+/* At most this many units may be in huge pages, since between these and others the system has a limit of changes. */
 enum { MOST_HUGE = 1 << 18 };
 /* Where the range begins: shadow.h says why there. */
 #define RANGE ((uint64_t)ARENA_NUMBER << ARENA_SHIFT)
@@ -92,7 +92,7 @@ static bool note_from(uint32_t from, size_t count)
     return true;
 }
 
-/* Likewise on all units below one, in a row. */
+/* The same for all units below one, in a row. */
 static bool note_below(uint32_t *noted, uint32_t units)
 {
     if (units <= *noted)

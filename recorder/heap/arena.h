@@ -118,7 +118,7 @@ extern struct arena {
     uint32_t noted;       /* units that have notes, */
     uint32_t committed;   /* and memory */
     uint32_t top;         /* units used so far, with unit 0, which is never used: it is the first block's neighbour */
-    uint32_t big_noted, big_top; /* likewise from FIRST_BIG on, where each run gets its memory by itself */
+    uint32_t big_noted, big_top; /* the same from FIRST_BIG on, where each run gets its memory by itself */
     uint32_t bins[BINS + 1];
     /* Of giving back (arena.c). */
     uint32_t taken, most_taken; /* units, now and at most */
@@ -154,7 +154,7 @@ static inline uint32_t slot_factor(uint32_t slot_size)
     return UINT32_MAX / slot_size + 1;
 }
 
-/* How many whole slots there are in so many bytes of a slab, by its factor. It is exact, since these bytes times the
+/* The number of whole slots in this many bytes of a slab, by its factor. It is exact, since these bytes times the
    size of a slot are fewer than 2^32. */
 static inline uint32_t slots_in(uint32_t bytes, uint32_t factor)
 {
@@ -232,13 +232,14 @@ bool arena_give_memory(void *start, size_t bytes);
 uint32_t arena_take_run(uint32_t count, bool is_slab);
 /* Their memory waits to be given back to the system. */
 void arena_give_run(uint32_t first, uint32_t count);
-/* Units in a row that were never used, of zeros, at most so many; 0 if there is no memory. Nothing is noted of them. */
+/* Units in a row that were never used, of zeros, at most this many; 0 if there is no memory. Nothing is noted of
+   them. */
 uint32_t arena_take_unused(uint32_t count);
-/* Likewise a run for a big block. */
+/* The same for a run for a big block. */
 uint32_t arena_take_big(uint32_t count);
 /* Gives the memory of units back to the system for good. False: the process has locked it. */
 bool arena_drop(uint32_t first, uint32_t count);
-/* Likewise of all units of a region, with what the system keeps of it. */
+/* The same for all units of a region, with what the system keeps of it. */
 void arena_renew_region(uint32_t region);
 /* Gives back the notes on the blocks of a unit, except on the first; or all notes on the units of a region, which are
    new then. */
@@ -257,13 +258,13 @@ struct nearest {
     uint64_t size;
     struct call_sites call_sites;
     enum family family;
-    bool is_forgotten; /* its notes went back: it had so many bytes at most, or nothing is known if it has no start */
+    bool is_forgotten; /* its notes are gone: it had at most this many bytes, or nothing is known if it has no start */
 };
 
 /* Without a lock, at any time: the notes may change meanwhile, and then what it answers is of no use. False: no block
    is near, and none was there. */
 bool arena_find_nearest(uintptr_t address, struct nearest *found);
-/* Likewise the block in whose slot or run an address is, live or held, and where it begins. */
+/* The same for the block in whose slot or run an address is, live or held, and where it begins. */
 bool arena_find_around(uintptr_t address, struct block *block, uintptr_t *start);
 
 #endif

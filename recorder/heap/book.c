@@ -184,7 +184,7 @@ static bool state_block(const struct found *block)
     return is_stated;
 }
 
-/* For what is freed in so many bytes from a multiple of them on: a block, whose redzones are there too. If the address
+/* For blocks freed in this many bytes from a multiple of them on: a block, whose redzones are there too. If the address
    is in one of them, a small one. */
 static struct found forgotten_at(uintptr_t address, size_t bytes)
 {

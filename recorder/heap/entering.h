@@ -83,7 +83,7 @@ static inline bool heap_enter(void)
     return LIKELY(enter_own()) || enter_again();
 }
 
-/* Likewise, always to all of it. */
+/* The same, always to all of it. */
 bool heap_enter_all(void);
 
 static inline void heap_leave(void)

@@ -68,7 +68,7 @@ static bool take_from_program(struct block *block, struct block now)
                                        __ATOMIC_RELAXED);
 }
 
-/* A block whose address is never handed out again, or not before its unit is opened again. */
+/* A block whose address is never reused, or not before its unit is opened again. */
 static inline enum freeing free_forward(struct shard *shard, struct block *block, uintptr_t address, struct origin from,
                                         struct block now)
 {

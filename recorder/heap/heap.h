@@ -30,12 +30,12 @@ void heap_left_by_jump(uintptr_t target);
 void heap_ends_here(void);
 /* Whether it has the allocator for itself: also in a signal handler that has interrupted it in there. */
 bool heap_is_locked_here(void);
-/* Likewise, or it gets it until it unlocks it, which it is about to lock: no other thread is in there then. False: that
+/* The same, or it gets it until it unlocks it, which it is about to lock: no other thread is in there then. False: that
    can't be, or not soon. Undisturbed. */
 bool heap_close_here(void);
 /* Records what stands: a malloc for each block that is live, a malloc and a free for each that is held, and poison for
-   what was released and for what the process has poisoned. Of the held blocks the oldest are released first, as far as
-   they are more than so many, or the events more than there is room for. In lean recording nothing is recorded, and the
+   what was released and for what the process has poisoned. Of the held blocks the oldest are released until at most
+   this many are held and the events fit into the room. In lean recording nothing is recorded, and the
    book is empty then (book.h). The heap is locked. */
 void heap_snapshot(uint64_t most_held, uint64_t room);
 /* Whether the shadow shows the state of blocks from now on. If nothing is recorded it need not, */

@@ -9,7 +9,7 @@
 #include "stream/record.h"
 #include "stream/side.h"
 
-/* So many slots are looked at on either side: in between are free ones, and what has none is passed at once. */
+/* This many slots are searched on either side: in between are free ones, and what has none is passed at once. */
 enum { MOST_SLOTS = 1 << 12 };
 
 /* A slot or a run, or a part of a unit that has none. */

@@ -13,9 +13,9 @@
 enum { RED_GRANULES = REDZONE / GRANULE };
 _Static_assert(RED_GRANULES == sizeof(uint32_t), "a redzone is one number in the shadow");
 
-/* From so many granules on whole pages are given back. */
+/* From this many granules on whole pages are given back. */
 enum { LARGE_PAINT = 1 << 16 };
-/* Up to so many they are stored one by one, without a call. */
+/* Up to this many are stored one by one, without a call. */
 enum { SMALL_PAINT = 64 };
 
 static inline unsigned char *block_shadow(uintptr_t address)

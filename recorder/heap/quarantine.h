@@ -1,5 +1,5 @@
 /* In order: a freed block waits in the quarantine as long as the checker holds it, which counts the same bytes in the
-   same order. Then its slot or run is handed out again: slots that were freed last come first. All of it
+   same order. Then its slot or run is reused: slots that were freed last come first. All of it
    is with all. */
 #ifndef ASANCOL_QUARANTINE_H
 #define ASANCOL_QUARANTINE_H
@@ -11,10 +11,10 @@ struct block *quarantine_take_slot(unsigned class, uint32_t slot_size);
 struct block *quarantine_take_run(size_t count);
 /* A freed block, which is bad already. */
 void quarantine_hold(struct block *block);
-/* One that the checker does not know is handed out again. */
+/* One that the checker does not know is reused. */
 void quarantine_release(struct block *block);
 void quarantine_release_oldest(void);
-/* As many as are needed for this many bytes of spans. */
+/* Enough entries for this many bytes of spans. */
 void quarantine_release_down_to(uint64_t bound);
 
 /* From now on all is in order: what is freed, and has its memory, is held. */

@@ -12,7 +12,7 @@
 #include "stream/side.h"
 
 enum { PAGES = UNIT / PAGE };
-/* So many bytes of notes are kept of units that have nothing else. */
+/* The most bytes of notes that are kept of units without anything else. */
 enum { MOST_KEPT_BYTES = 64 << 20 };
 
 static uint32_t whole_pages(size_t bytes)
@@ -104,8 +104,8 @@ static void keep(uint32_t unit)
         forget_oldest();
 }
 
-/* The oldest of these with so many units, or 0. What was a run of a big block has notes on one slot of each unit alone,
-   so no slab fits there. */
+/* The oldest of these with this many units, or 0. What was a run of a big block has notes on one slot of each unit
+   alone, so no slab fits there. */
 static uint32_t find_kept(uint32_t least, uint32_t most)
 {
     bool is_big = (size_t)least * UNIT > BIG_BYTES;
@@ -120,7 +120,7 @@ static uint32_t find_kept(uint32_t least, uint32_t most)
     return 0;
 }
 
-/* After so many bytes of blocks' memory, big blocks' too. */
+/* After this many bytes of blocks' memory, big blocks' too. */
 static void note_reuse(void)
 {
     side_note_reuse(((uint64_t)arena.top + (arena.big_top - FIRST_BIG)) * UNIT);
@@ -361,7 +361,7 @@ static unsigned bits_in(unsigned set)
     return count;
 }
 
-/* How many pages hold freed blocks, if the so many that are left lay together. */
+/* The number of pages that hold freed blocks, if the remaining ones were contiguous. */
 static unsigned dead_pages(const struct unit *unit, uint32_t left)
 {
     uint64_t live = (uint64_t)left * unit->slot_size;

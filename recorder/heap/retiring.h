@@ -1,4 +1,4 @@
-/* What becomes of units whose blocks are freed for good (shards.h). */
+/* What happens to units whose blocks are freed for good (shards.h). */
 #ifndef ASANCOL_RETIRING_H
 #define ASANCOL_RETIRING_H
 
@@ -22,7 +22,7 @@ void retiring_undo(uint32_t unit);
 void retiring_count(uint32_t unit);
 /* A unit is closed for long: from now on it is looked at. */
 void retiring_begin(uint32_t unit);
-/* The oldest unit of a class whose free slots may be handed out again, which is counted as open; 0: there is none.
+/* The oldest unit of a class whose free slots may be reused, which is counted as open; 0: there is none.
    Under central. */
 uint32_t retiring_take_listed(unsigned class);
 

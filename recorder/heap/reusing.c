@@ -35,7 +35,7 @@ static uint32_t retired_at(uint32_t number)
     return NOTE_NOW(arena.units[number].form) >= FORM_BACK ? units_at(number) : 0;
 }
 
-/* So many in a row, or more in which they are; or 0. */
+/* This many in a row, or a longer run that contains them; or 0. */
 static uint32_t find_row(uint32_t from, uint32_t end, uint32_t count)
 {
     uint32_t first = from;
@@ -79,7 +79,7 @@ static void note_again(uint32_t region)
         write_forgotten(unit);
 }
 
-/* What comes after the so many in a run that is longer. It stays retired. */
+/* The rest of a longer run after these. It stays retired. */
 static void leave_rest(uint32_t first, uint32_t end)
 {
     for (uint32_t unit = first; unit < end; unit++)

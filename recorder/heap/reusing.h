@@ -5,7 +5,7 @@
 #include <stdbool.h>
 #include <stdint.h>
 
-/* So many units in a row that are retired, of whatever length, with notes or without; 0: there are none. What is for a
+/* This many retired units in a row, of any length, with notes or without; 0: there are none. What is for a
    slab has notes on all slots. They are what they were, or a run. Under central. */
 uint32_t reusing_take(uint32_t count, bool is_slab);
 

@@ -12,10 +12,10 @@
 #include "heap/reusing.h"
 #include "shadow/unused.h"
 
-/* How many units a shard takes at a time, and runs: at first as many as there are, within these. */
+/* How many units a shard takes at a time, and runs: at first the number that there is, within these bounds. */
 enum { LEAST_SPAN = 4, MOST_SPAN = 32 };
 /* Of each region a mapping stays, and the system has a limit of these (65,530). So from 512 GB on what is retired is
-   handed out again first. */
+   reused first. */
 #ifndef MANY_UNITS
 enum { MANY_UNITS = 1 << 23 };
 #endif
@@ -157,7 +157,7 @@ static bool open_again(struct shard *shard, unsigned class)
     return unit != 0;
 }
 
-/* If there is no memory, what is dead is handed out again too. */
+/* If there is no memory, what is dead is reused too. */
 static bool open_some(struct shard *shard, unsigned class, uint32_t slot_size)
 {
     if (UNLIKELY(dead_are_too_many()) && open_again(shard, class))
@@ -181,7 +181,8 @@ static void count_up(uint32_t unit)
     __atomic_add_fetch(&arena.units[unit].left, 1, __ATOMIC_RELAXED);
 }
 
-/* A unit whose slots are all handed out is looked at once so many others of the shard are: most are retired by then. */
+/* A unit whose slots are all handed out is looked at once this many others of the shard are: most are retired by
+   then. */
 static void close_slab(struct shard *shard, struct slab *slab)
 {
     uint32_t unit = slab->unit, *place = &shard->closed[shard->closed_count++ % MOST_CLOSED], before = *place;

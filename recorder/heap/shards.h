@@ -10,7 +10,7 @@
    What is freed for good stays bad in the shadow (shadow/unused.h), so each later use is found.
 
    Pages of freed blocks that can't go back, since live ones lie beside them, are dead. If they are more than the bound
-   of the quarantine, free slots of the oldest such units are handed out again, and the stream says so
+   of the quarantine, free slots of the oldest such units are reused, and the stream says so
    (side_note_reuse). */
 #ifndef ASANCOL_SHARDS_H
 #define ASANCOL_SHARDS_H

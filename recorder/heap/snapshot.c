@@ -76,7 +76,7 @@ static void add_unused(struct snapshot *snapshot, uintptr_t start, uintptr_t end
     snapshot->to = end;
 }
 
-/* A unit, or a run, but for a live block in a run, which may have gigabytes. Returns how many units it has. */
+/* A unit, or a run, except a live block in a run, which may have gigabytes. Returns how many units it has. */
 static uint32_t snapshot_unit(struct snapshot *snapshot, uint32_t unit)
 {
     bool is_run = is_used(unit) && arena.units[unit].kind == UNIT_RUN;
@@ -102,7 +102,7 @@ static void snapshot_memory(struct snapshot *snapshot)
     snapshot_unused(snapshot);
 }
 
-/* The events but for those of the quarantine. */
+/* The events except those of the quarantine. */
 static uint64_t count_snapshot(void)
 {
     struct snapshot counted = {.is_counted = true};
@@ -113,8 +113,8 @@ static uint64_t count_snapshot(void)
     return counted.events;
 }
 
-/* Releases the oldest blocks of the quarantine until a snapshot of the rest, with all else, has so many events. A part
-   of these is for what other threads poison after it was counted: that needs no lock. */
+/* Releases the oldest blocks of the quarantine until a snapshot of the rest, with everything else, has this many
+   events. A part of these is for what other threads poison after it was counted: that needs no lock. */
 static void fit_quarantine(uint64_t most_held, uint64_t room)
 {
     uint64_t most = most_held, few = room / 16;

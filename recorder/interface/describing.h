@@ -17,7 +17,7 @@ struct text {
 struct text text_in(char *room, size_t size);
 void text_put(struct text *text, const char *letters);
 void text_put_number(struct text *text, uint64_t number);
-/* With at least so many digits, after 0x. */
+/* With at least this many digits, after 0x. */
 void text_put_address(struct text *text, uint64_t address, unsigned digits);
 
 /* The module that has an instruction, and how far it is from where the module was linked for. False: it is in none. */

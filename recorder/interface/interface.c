@@ -81,8 +81,8 @@ INTERFACE void __sanitizer_annotate_contiguous_container(const void *start, cons
     poison_as_container(middle, high);
 }
 
-/* Likewise of a container with two ends, whose bytes in use are those from `new_first` up to `new_last`. The granule of
-   the first byte is in use from its start on, since no shadow says otherwise. */
+/* The same for a container with two ends, whose bytes in use are those from `new_first` up to `new_last`. The
+   granule of the first byte is in use from its start on, since no shadow says otherwise. */
 INTERFACE void __sanitizer_annotate_double_ended_contiguous_container(const void *start, const void *end,
                                                                       const void *old_first, const void *old_last,
                                                                       const void *new_first, const void *new_last)

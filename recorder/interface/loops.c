@@ -45,7 +45,7 @@ static inline bool is_clean(uint64_t address, uint64_t size)
     return shadow_is_clean(address, size);
 }
 
-/* Whether the accesses of so many rounds are good: to `bytes` bytes from `start` on, which moves by `step` from each
+/* Whether the accesses of this many rounds are good: to `bytes` bytes from `start` on, which moves by `step` from each
    round to the next. It reads the shadow without a word to other threads, as an inline check does. */
 static inline bool are_good(uint64_t rounds, uintptr_t start, int64_t step, uint64_t bytes, uint64_t instructions)
 {
@@ -59,7 +59,7 @@ static inline bool are_good(uint64_t rounds, uintptr_t start, int64_t step, uint
 }
 
 /* Whether all rounds of a loop need no check of an access: then how many of them one look at the shadow is for, and
-   else 0. A round runs so many instructions. */
+   else 0. A round runs this many instructions. */
 CALLBACK uint64_t __asan_good_loop(uint64_t rounds, uintptr_t start, int64_t step, uint64_t bytes,
                                    uint64_t instructions, uint64_t unit)
 {

@@ -12,7 +12,7 @@
 #define STRIP_ALONE (UINT64_C(1) << 16)
 /* Once there was a second thread. */
 #define STRIP_BESIDE_OTHERS (UINT64_C(1) << 12)
-/* A strip of an innermost loop is a multiple of so many rounds, but for the last one: vectors fit into it. */
+/* A strip of an innermost loop is a multiple of this many rounds, except the last one: vectors fit into it. */
 #define STRIP_UNIT UINT64_C(64)
 
 #endif

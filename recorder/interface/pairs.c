@@ -13,7 +13,7 @@
 #include "stream/findings.h"
 
 enum { NULLS_ARE_GOOD = 1 };
-/* Up to so many bytes apart two pointers are of one object if all between them is addressable. */
+/* Up to this many bytes apart, two pointers are of one object if all between them is addressable. */
 enum { NEAR = 2048 };
 
 /* The start of the block that has an address, or that ends there; or 0. */

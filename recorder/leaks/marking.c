@@ -109,7 +109,7 @@ static bool scan_pages(uintptr_t start, uintptr_t end, enum mark mark, const str
     return true;
 }
 
-/* Likewise, and many pages at once where all of them are there. */
+/* The same, and many pages at once where all of them are there. */
 static void scan_parts(uintptr_t start, uintptr_t end, enum mark mark, const struct block *from, bool stops_at_gap)
 {
     enum { PART = 1 << 21 };

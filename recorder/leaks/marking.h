@@ -19,7 +19,7 @@ void marking_end(void);
 /* A root: a word, or words in memory of which a part may be gone. */
 void mark_word(uintptr_t word);
 void mark_range(uintptr_t start, uintptr_t end);
-/* Likewise, up to the first page that is gone. */
+/* The same, up to the first page that is gone. */
 void mark_up_to_gap(uintptr_t start, uintptr_t end);
 void mark_block(const struct block *block);
 /* Goes on to all that the roots lead to. */

@@ -117,7 +117,7 @@ static void mark_modules(void)
 
 /* What the C library keeps of a thread, if it does not say how much that is. */
 enum { USUAL_CONTROL_SIZE = 2304 };
-/* What lies below the stack pointer is a leaf function's, for so many bytes. */
+/* This many bytes below the stack pointer are a leaf function's. */
 enum { RED_ZONE = 128 };
 /* A stack that is not known reaches so far up. */
 enum { UNKNOWN_REACH = 8 << 20 };

@@ -101,7 +101,7 @@ static bool was_asked(pid_t thread)
     return false;
 }
 
-/* Asks a thread to stop that was not asked yet. Signals that wait may be as many as there can be: then it is asked
+/* Asks a thread to stop that was not asked yet. There may be no room for another pending signal: then it is asked
    later. */
 static void visit_running(pid_t thread, void *found)
 {

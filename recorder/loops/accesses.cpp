@@ -12,13 +12,13 @@ using namespace llvm;
 namespace
 {
 
-/* At least so many rounds, if their number is constant: a test is a call. */
+/* At least this many rounds, if their number is constant: a test is a call. */
 const unsigned LEAST_ROUNDS = 32;
 /* One more is a call more. */
 const unsigned MOST_RANGES = 6;
 /* Accesses so near to each other are tested as one. */
 const uint64_t NEAR = 512;
-/* For each access of a round a test may read the shadow of so many bytes. */
+/* For each access of a round a test may read the shadow of this many bytes. */
 const uint64_t BYTES_OF_ACCESS = 64;
 /* What is copied in a round, at most, so that a round takes no time that counts. */
 const uint64_t MOST_COPIED = 256;
@@ -166,7 +166,7 @@ bool access_reader::place(Instruction *access, tested_loop &it, range &found) co
     return at->getType()->isPointerTy() && is_known(at, it.loop) && is_known(found.step, it.loop);
 }
 
-/* To a range that moves likewise and begins near, if there is one. */
+/* To a range that moves in the same way and begins near, if there is one. */
 void access_reader::add(tested_loop &it, range &found) const
 {
     for (range &other : it.ranges) {

@@ -30,7 +30,7 @@ using namespace llvm;
 namespace
 {
 
-/* So many instructions at least that the checks of a loop are worth a test. */
+/* At least this many instructions that the checks of a loop are worth a test. */
 const uint64_t LEAST_ROUNDS = 32;
 const uint64_t LEAST_WORK = 1024;
 /* Numbers of rounds and steps are below these, so that no product of two of them wraps. */
@@ -218,7 +218,7 @@ void versioning::split()
     end->eraseFromParent();
 }
 
-/* The call of a test of the next rounds, where so many are done. */
+/* The call of a test of the next rounds, after this many. */
 Value *versioning::test(IRBuilder<> &builder, const char *name, Value *rounds, Value *from, const tested_range &each)
 {
     Type *pointer = byte->getPointerTo();
@@ -312,7 +312,7 @@ Value *versioning::at_end(ValueToValueMapTy &of_copies, Loop *copy, Value *value
     return kept;
 }
 
-/* What a variable is after so many rounds, if that follows from their number; or null. */
+/* The value of a variable after this many rounds, if their number determines it; or null. */
 Value *versioning::moved_by(IRBuilder<> &builder, PHINode &variable, Value *rounds)
 {
     Type *type = variable.getType();

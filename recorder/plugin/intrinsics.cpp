@@ -16,7 +16,7 @@ enum shape {
     NARROW,  /* these, of which all are as wide as what the type of the pointer says */
     PACKED,  /* as many elements as the mask has, one after the other */
     INDEXED, /* the elements that the mask has, each at its index */
-    BYTES    /* as many as the row says */
+    BYTES    /* the number in the row */
 };
 
 struct row {

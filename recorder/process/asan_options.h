@@ -14,7 +14,7 @@ void asan_options_read(const char *asan, const char *lsan);
 bool asan_options_say(enum asan_option option, bool otherwise);
 /* Which level an option has, at most as much; or else what holds otherwise. */
 uint64_t asan_options_level(enum asan_option option, uint64_t most, uint64_t otherwise);
-/* How many bytes of freed blocks are held, at most as many; or else as many as hold otherwise. */
+/* How many bytes of freed blocks are held, at most this number; or else the default number. */
 uint64_t asan_options_hold(uint64_t most, uint64_t otherwise);
 /* Lines with an end each: what the program's functions say that has no effect here, and its suppressions, which come
    after an exclamation mark. */

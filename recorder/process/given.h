@@ -9,7 +9,7 @@
 
 #include "base/platform.h"
 
-/* Whether so many bytes can be read. The system is asked unless they are in the program's file, in a live block,
+/* Whether this many bytes can be read. The system is asked unless they are in the program's file, in a live block,
    above us on the thread's own stack, or what the process was started with. */
 bool given_is_there(uintptr_t start, size_t size);
 /* Whether a text can, up to its end. */

@@ -21,7 +21,7 @@
 #include "stacks/stacks.h"
 #include "stacks/thread_notes.h"
 
-/* An address has at least so many digits, as AddressSanitizer has it. */
+/* An address has at least this many digits, as in AddressSanitizer. */
 enum { ADDRESS_DIGITS = 12 };
 
 /* What waits to be written. */

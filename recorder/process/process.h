@@ -1,4 +1,4 @@
-/* What becomes of the stream when the process starts, forks, and ends. */
+/* What happens to the stream when the process starts, forks, and ends. */
 #ifndef ASANCOL_PROCESS_H
 #define ASANCOL_PROCESS_H
 

@@ -244,7 +244,7 @@ static void read_options_of_asan(struct settings *settings)
     settings->other_sizes = mismatches && asan_options_say(ASAN_new_delete_type_mismatch, true);
 }
 
-/* Likewise, classes that are on or off by default as there. */
+/* The same for classes that are on or off by default as there. */
 static void read_classes(struct settings *settings)
 {
     bool looks_at_order = asan_options_say(ASAN_check_initialization_order, false);

@@ -5,7 +5,7 @@
 #include <stdbool.h>
 #include <stdint.h>
 
-/* Of so many segments the oldest can be thrown away, or of none. */
+/* From this many segments on the oldest can be removed; or 0. */
 enum { MAX_SEGMENTS_KEPT = 1000 };
 #define ALL_SEGMENTS UINT64_MAX
 

@@ -119,7 +119,7 @@ static void take_away(struct list *list, const char *front, const char *text, si
     list->length -= size;
 }
 
-/* Those of the list as it is, but for how many more there are, which is counted again. */
+/* Those of the list as it is, except how many more there are, which is counted again. */
 static struct list begin(char *lines)
 {
     struct list list = {lines, 0, 0};

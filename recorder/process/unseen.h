@@ -10,7 +10,7 @@
 
 /* This process is not recorded, or not there. */
 void unseen_note(const char *hub, const char *why) OWN_NAME(unseen_note);
-/* Likewise, by a connection alone. False: the hub is not there, or does not take the process for its own. */
+/* The same, by a connection alone. False: the hub is not there, or does not take the process for its own. */
 bool unseen_tell(const char *hub, const char *why) OWN_NAME(unseen_tell);
 
 /* This process becomes a program that asancol-cc has built, and is expected to connect. The text says why it did not if

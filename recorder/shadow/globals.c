@@ -13,7 +13,7 @@
 enum { ENTRIES = 100 };
 /* So far from a table an address may be nearest to one of its globals. */
 enum { REACH = 256 };
-/* So many globals are read at a time. */
+/* The number of globals that are read at a time. */
 enum { AT_ONCE = 4, VISITED_AT_ONCE = 64 };
 
 struct entry {

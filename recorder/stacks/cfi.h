@@ -15,7 +15,7 @@ enum cfi_kind {
     CFI_SIGNAL,   /* the end of a handler: the system has called that */
 };
 
-/* Where the caller's frame pointer is: so many words below the end of the frame, or one of these. */
+/* The caller's frame pointer: this many words below the end of the frame, or one of these. */
 enum {
     CFI_FRAME_KEPT = 0,     /* in its register */
     CFI_FRAME_LINKED = 254, /* where the frame pointer leads to */

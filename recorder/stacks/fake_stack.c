@@ -19,9 +19,9 @@ enum { SLOT_SHIFT = 24, SLOTS = 1 << 15, PART_SHIFT = 20 };
 #define PART_BYTES ((size_t)1 << PART_SHIFT)
 #define SLOT_BYTES ((1 + FAKE_CLASSES) * PART_BYTES)
 
-/* The flags of all classes lie in the first part: each class has half as many as the one before. */
+/* The flags of all classes lie in the first part: each class has half the number of the one before. */
 enum { FLAGS_AT = 1 << 16, MOST_FLAGS = 1 << (PART_SHIFT - FAKE_LEAST_SHIFT) };
-/* At the end of a thread so many bytes of each class stay, for the next one. */
+/* At the end of a thread this many bytes of each class stay, for the next one. */
 enum { KEPT_BYTES = 1 << 14 };
 
 /* At the start of a slot. Its thread alone uses this, and handlers of signals in that thread. */
@@ -257,7 +257,8 @@ static inline bool set_flag(volatile unsigned char *flag)
     return is_set;
 }
 
-/* The number of a frame that was free, or of none. It looks at so many flags at most, or eight times as many. */
+/* The number of a frame that was free, or of none. It looks at no more than this many flags, or eight times the
+   number. */
 static inline uint32_t take_number(struct fake_stack *stack, unsigned class, uint32_t none)
 {
     enum { LOOKS = 64 };

@@ -1,6 +1,6 @@
 /* A frame with redzones begins with a left one. There the compilers write a number by which it is known, and the
-   address of its description: "COUNT", and for each variable "OFFSET SIZE LENGTH NAME", where the name has so many
-   letters, and may end in ":LINE". What a frame that is gone has left may be anything, so nothing of it is believed. */
+   address of its description: "COUNT", and for each variable "OFFSET SIZE LENGTH NAME", where LENGTH is that of the
+   name, which may end in ":LINE". What a frame that is gone has left may be anything, so nothing of it is believed. */
 #include "stacks/frames.h"
 
 #include <string.h>
@@ -9,8 +9,8 @@
 #include "shadow/shadow.h"
 #include "stacks/fake_stack.h"
 
-/* So many granules are gone over from what is in a frame for certain, so many from what may be in none, and so many
-   variables. */
+/* The most granules that are searched from memory that is certainly in a frame, from memory that may be in none, and
+   the most variables. */
 enum { MAX_GRANULES = 1 << 16, FEW_GRANULES = 1 << 11, MAX_VARIABLES = 1 << 12 };
 
 /* The shadow of the maps themselves can't be read. */

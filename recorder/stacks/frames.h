@@ -22,7 +22,7 @@ bool frame_around(uint64_t address, struct frame *frame);
 /* The variable of it that is nearest to the address. False: it has none. */
 bool frame_nearest(const struct frame *frame, uint64_t address, struct frame_variable *found);
 
-/* Goes over the letters of a description, some at a time, at most so many. */
+/* Goes over the letters of a description, some at a time, at most this many. */
 void frame_each_part(const struct frame *frame, size_t most, void visit(const char *text, size_t length, void *with),
                      void *with);
 

@@ -20,7 +20,7 @@ enum { OWN_MASK = (1 << (COUNT_SHIFT - OWN_SHIFT)) - 1 };
 #define RECORDING_MASK ((UINT32_C(1) << (OWN_SHIFT - RECORDING_SHIFT)) - 1)
 _Static_assert(SIDE_STACK_WORDS <= NUMBER_MASK, "a number is a place beside the stream");
 _Static_assert((int)MAX_FRAMES <= (int)OWN_MASK, "there is room for both counts");
-/* A stack shares frames only if at most one in so many is its own. */
+/* A stack shares frames only if at most one in this many is its own. */
 enum { LEAST_PER_OWN = 4 };
 
 /* What tells a stack from an address: no address has this bit. Below are the number of the thread, and an address or
@@ -32,7 +32,7 @@ _Static_assert(THREAD_SHIFT + THREAD_BITS < 63 && ADDRESS_END == UINT64_C(1) << 
 
 #define STACK_WORDS ((uint32_t)1 << 22)
 #define STACKS ((uint64_t)1 << 18)
-/* So many places of the table stay free, so that a search ends soon. */
+/* This many slots of the table stay free, so that a search ends soon. */
 #define SPARE_STACKS (STACKS / 4)
 #define WORD_MASK ((uint64_t)STACK_WORDS - 1)
 

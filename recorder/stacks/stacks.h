@@ -16,7 +16,7 @@ void stacks_begin(void);
 /* The call site from which we came to `caller`, with the calls that led there (unwinding.h). At any time, and
    in a signal handler too. */
 call_site call_site_of(uintptr_t caller);
-/* Likewise, if between here and that call lies code without frame pointers: from a frame beyond that, or 0. */
+/* The same, if between here and that call lies code without frame pointers: from a frame beyond that, or 0. */
 call_site call_site_from(uintptr_t frame, uintptr_t caller);
 /* The call site that stands for an instruction at which a signal has come. */
 call_site call_site_at(const struct registers *registers);

@@ -8,7 +8,7 @@
 
 #include "common/format.h"
 
-/* A number has so many bits (stacks.h). Of the first thread it is 0. */
+/* A number has this many bits (stacks.h). The first thread's is 0. */
 enum { THREAD_BITS = 15, THREAD_UNKNOWN = (1 << THREAD_BITS) - 1 };
 enum { NAME_WORDS = SIDE_THREAD_NAME / sizeof(uint64_t) };
 

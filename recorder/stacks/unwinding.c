@@ -32,7 +32,7 @@ void unwinding_modules_changed(void)
     atomic_fetch_add(&rules_generation, (uint64_t)1 << GENERATION_SHIFT);
 }
 
-/* How many bytes an instruction has by its second byte, which says where its operand is; so many are there. */
+/* How many bytes an instruction has by its second byte, which says where its operand is; this many exist. */
 static unsigned length_of(const unsigned char *code, unsigned there)
 {
     enum { SMALL_OFFSET = 1, OFFSET = 2, REGISTER = 3, HAS_INDEX = 4, NO_BASE = 5 };

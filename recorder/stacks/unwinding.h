@@ -37,7 +37,7 @@ struct registers {
     uintptr_t instruction, stack, frame;
 };
 
-/* Likewise, from any instruction on, whose address comes first, with 1 added, as if it were a call. */
+/* The same, from any instruction on, whose address comes first, with 1 added, as if it were a call. */
 void unwind_from_registers(const struct registers *registers, struct stack *found);
 
 /* What is known of the code of modules may be true no more. */

@@ -149,7 +149,7 @@ static inline uint64_t find_walk(struct walks *walks, uintptr_t start, uintptr_t
     return 0;
 }
 
-/* Likewise, if it can be looked for in this frame of the recorder's. */
+/* The same, if it can be looked for in this frame of the recorder's. */
 static inline uint64_t walks_recall(uintptr_t own, uintptr_t start, uintptr_t caller)
 {
     struct walks *walks = atomic_load_explicit(&own_walks.walks, memory_order_relaxed);
@@ -212,7 +212,7 @@ static inline struct pair *keep_next(const struct keeping *keeping, uintptr_t fr
     return keeping->at + needs_run(keeping, frame);
 }
 
-/* It has read what lies at so many frame pointers, from this one on, and that was put there. */
+/* It has read the words at this many frame pointers, from this one on, and they were put there. */
 static inline void keep_frames(struct keeping *keeping, uintptr_t frame, uint32_t count)
 {
     if (needs_run(keeping, frame))

@@ -27,7 +27,7 @@ void ending_go_on_closing(void);
    number. The last is in a handler, which does not wait for the lock for ever. */
 void stream_end(enum finish finish, enum ending ending, int number);
 /* At an exit: writes what stands at the end, and goes on, since code that is recorded may still run. `is_last`: none
-   does, but for other threads. Then a socket gets its close, unless a hub can do without. The generation is that of
+   does, except other threads. Then a socket gets its close, unless a hub can do without. The generation is that of
    modules, as the loader counts them. */
 void stream_close(bool is_last, uint64_t generation);
 /* Whether the close will be sent then, after which nothing can come. */

@@ -127,7 +127,7 @@ void fault_end(unsigned window)
         ;
 }
 
-/* The fault of an access whose first bad piece this is, so many bytes from an address on. */
+/* The fault of an access whose first bad piece this is, this many bytes from an address on. */
 static uint32_t find_fault(struct list *list, const struct access *access, unsigned width, uint64_t address)
 {
     uint64_t bad = first_bad(width, address);

@@ -20,7 +20,7 @@ uint32_t fault_put_stack(call_site of);
    the system is called: if that ends the process, who reads the memory knows that something is missing. */
 void fault_begin(unsigned window);
 void fault_end(unsigned window);
-/* What the index is to have of a bad piece of an access, so many bytes from an address on: the number of its fault,
+/* What the index is to have of a bad piece of an access, this many bytes from an address on: the number of its fault,
    from 1, with SIDE_IS_PIECE if another piece was noted before; 0 if there is no room for it. All pieces in a list have
    the fault that the first of them has there. It is found before its event has its place in the stream, for which other
    threads may wait. At any time, and in a signal handler too. */

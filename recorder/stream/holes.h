@@ -9,7 +9,7 @@
 
 /* Puts a record of this length that says nothing. */
 void holes_fill(unsigned char *at, unsigned length);
-/* Likewise, where one was put into the place of this thread's record, whose bytes may stand there now. */
+/* The same, where one was put into the place of this thread's record, whose bytes may stand there now. */
 void holes_fill_again(unsigned char *at);
 /* Goes on over the records that are whole, up to `end`, which is a border. With patience it waits for others to finish
    theirs, and then fills holes. Answers how many these were. The lock is held. */

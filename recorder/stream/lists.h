@@ -12,7 +12,7 @@
 #include "stacks/stacks.h"
 #include "stream/windows.h"
 
-/* A side file gets room on the disk in pieces of so many bytes, as they are written to: what has no room is not
+/* A side file gets room on the disk in pieces of this many bytes, as they are written to: what has no room is not
    stored. */
 enum { PIECE = 1 << 16, PIECES = SIDE_ROOM / PIECE + 1, PIECE_BITS = 32 };
 
@@ -40,7 +40,7 @@ bool list_back(struct list *list, uint64_t offset, uint64_t length, bool has_pla
 /* Raises a count that is in the side file. */
 void list_raise(_Atomic uint32_t *count, uint32_t least);
 
-/* Takes so many words among the stacks, and says the number of the first one. Null: there is no room. */
+/* Takes this many words among the stacks, and gives the number of the first one. Null: there is no room. */
 uint64_t *list_take_words(struct list *list, uint32_t count, uint32_t *number);
 /* The words before this one are there. */
 void list_show_words(struct list *list, uint32_t end);

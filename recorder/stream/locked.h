@@ -13,7 +13,7 @@ extern struct locked {
     uint64_t segment;        /* how many came before this one */
     uint64_t start;          /* the offset at which the stream begins */
     uint64_t checked;        /* up to here the records were seen to be whole, */
-    uint64_t checked_events; /* so many */
+    uint64_t checked_events; /* their number */
     uint64_t generation;     /* of modules, as the loader has counted them just before an exit; or 0 */
     bool takes_snapshot;     /* what a segment begins with, just now, */
     bool is_overfull;        /* for which there was no room */

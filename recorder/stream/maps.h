@@ -41,7 +41,7 @@ struct map_head {
 bool map_head_read(const struct map_head *head, uint64_t from, void *to, size_t size);
 /* Finds a note of the module. */
 bool map_head_find_note(const struct map_head *head, const char *owner, uint32_t type, struct note *found);
-/* Likewise of one whose head was not read. */
+/* The same for one whose head was not read. */
 bool maps_find_note(uint64_t start, const char *owner, uint32_t type, struct note *found);
 
 #endif

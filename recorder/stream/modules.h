@@ -24,7 +24,7 @@ void module_at(struct module *module, uint64_t start);
 void modules_show(struct side *side);
 /* Makes the note anew if there is other code now, and copies it. */
 void modules_look(struct side *side);
-/* Likewise, unless this is the generation of modules that the note is of, as the loader counts them. */
+/* The same, unless this is the generation of modules that the note is of, as the loader counts them. */
 void modules_look_at_generation(struct side *side, uint64_t generation);
 /* The note was made after the loader had counted this generation, and before another one could come. */
 void modules_are_of_generation(uint64_t generation);

@@ -10,7 +10,7 @@
 /* Opens the output, writes the header, and turns the stream on. False: one line said why not. No other thread is in the
    stream. */
 bool stream_begin(const struct settings *settings);
-/* In a child: forgets the parent's stream. Likewise. */
+/* In a child: forgets the parent's stream. The same. */
 void stream_forget(void);
 
 /* The lock of the stream is held for these. */

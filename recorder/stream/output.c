@@ -88,7 +88,7 @@ static long put_memory(struct window window)
     return map(window, MAP_PRIVATE | MAP_ANONYMOUS, -1);
 }
 
-/* Likewise where plain memory lies already: it is given back, unless the process has locked all of its memory. */
+/* The same where plain memory lies already: it is given back, unless the process has locked all of its memory. */
 static long empty_memory(struct window window)
 {
     return system_madvise(window.bytes, window.room, MADV_DONTNEED) == 0 ? 0 : put_memory(window);
@@ -365,8 +365,9 @@ static void release_sent(struct output *output, uint64_t from)
         system_madvise(output->bytes + first, end - first, MADV_DONTNEED);
 }
 
-/* Waits until a socket may take more. Answers for how long in vain. The system says that there is room only if most of
-   what waits was read, and takes more before that: a collector that is slow is none that does not read. */
+/* Waits until a socket may take more. Returns how long it waited if there was no room. The system says that there is
+   room only if most of what waits was read, and takes more before that: a collector that is slow is none that does not
+   read. */
 static int wait_for_room(int descriptor, int patience_ms)
 {
     enum { LOOK_AGAIN_MS = 100 };

@@ -65,9 +65,9 @@ extern const char output_closed[];
 const char *output_send(struct output *output, uint64_t length, bool all, int patience_ms);
 /* Whether the address lies in a mapped file. Then the file is gone, and plain memory takes its place. */
 bool output_lose(struct output *output, const void *address);
-/* Takes a file away that was opened in vain. */
+/* Removes a file that turned out not to be needed. */
 void output_discard(struct output *output);
-/* Forgets an output: one that was opened in vain, or a parent's in its child. Plain memory takes its place, since a
+/* Forgets an output: an unneeded one, or a parent's in its child. Plain memory takes its place, since a
    record may still be written there: a signal handler that forks may have interrupted that. */
 void output_close(struct output *output);
 

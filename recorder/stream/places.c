@@ -95,7 +95,7 @@ void record_too_late(bool is_bad)
 /* Whether the place that was taken can be written; or whether there may be room for the record in another place. */
 enum room { NO_ROOM, ROOM_HERE, ROOM_IN_ANOTHER };
 
-/* Stops for a debugger, once, before the event is written that comes after so many others. */
+/* Stops for a debugger, once, before the event with this number of predecessors is written. */
 static void stop_at(uint64_t count)
 {
     uint64_t stop = atomic_load(&shared.stop);

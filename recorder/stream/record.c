@@ -18,7 +18,7 @@ __attribute__((noinline, cold)) void record_tell(enum code code, unsigned width,
     above.tell(&told);
 }
 
-/* The widest access at an address that is a multiple of its width, of so many bytes. */
+/* The widest access at an address that is a multiple of its width, in a range of this many bytes. */
 static unsigned piece_at(uint64_t address, uint64_t size)
 {
     unsigned width = 8;
@@ -44,8 +44,8 @@ void record_range(enum code code, uint64_t address, uint64_t size, uintptr_t cal
     }
 }
 
-/* Of one call so many bad pieces are recorded, and so many granules looked at after the first of them: a size may be
-   that of a mistake. For the first one as many bytes are looked at as a block may have. */
+/* The most bad pieces of one call that are recorded, and granules that are looked at after the first of them: a size
+   may be that of a mistake. For the first one as many bytes are looked at as a block may have. */
 enum { MAX_PIECES = 64, MAX_LOOKS = 1 << 20 };
 
 static void record_bad_pieces(struct access *access, uint64_t address, uint64_t size)

@@ -86,7 +86,7 @@ void record_first_of(enum code code, unsigned width, uint64_t address, uint64_t 
 void record_range(enum code code, uint64_t address, uint64_t size, uintptr_t caller) OWN_NAME(record_range);
 /* The pieces of it that the shadow flags. */
 void record_bad_range(enum code code, uint64_t address, uint64_t size, uintptr_t caller) OWN_NAME(record_bad_range);
-/* Likewise, of an access that a function of a library makes, of which so many of the first bytes are good. */
+/* The same for an access that a function of a library makes, of which this many of the first bytes are good. */
 void record_bad_call(enum code code, uint64_t address, uint64_t size, uint64_t good, uintptr_t caller, const char *call)
     OWN_NAME(record_bad_call);
 /* What the process poisons and unpoisons, of any size: in the shadow, and in the allocator's memory as records too. */

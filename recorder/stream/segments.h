@@ -8,7 +8,7 @@
 void segments_begin(const struct output *first);
 /* The name of a later segment. False: it is too long. */
 bool segments_name(uint64_t segment, char *name);
-/* A segment has begun in this file. Of all up to it the newest are kept, as many as these. */
+/* A segment has begun in this file. Of all up to it this number of the newest are kept. */
 void segments_keep(uint64_t segment, const struct output *output, uint64_t most);
 
 #endif

@@ -15,7 +15,8 @@
 #include "stream/side.h"
 #include "stream/state.h"
 
-/* After so many nanoseconds a socket gets what there is; and at once, as after a fault, so often in this time. */
+/* After this many nanoseconds a socket gets everything at hand; and at once, as after a fault, so often in this
+   time. */
 enum { SEND_AFTER = 4000000, MAX_AT_ONCE = 64 };
 
 /* In nanoseconds, as often as the system looks at it. */

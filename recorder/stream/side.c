@@ -160,7 +160,7 @@ void side_note_skipped(uint64_t what)
         atomic_fetch_or((_Atomic uint64_t *)&progress_in(side)->skipped, what);
 }
 
-/* Likewise, what this process has noted of memory that was used again: in a forked child that of its parent. */
+/* The same for what this process has noted of memory that was used again: in a forked child that of its parent. */
 static _Atomic uint64_t used_again;
 
 static void put_used_again(void)

@@ -16,14 +16,14 @@
 void side_begin(unsigned char *bytes, uint64_t segment, const struct settings *settings);
 void side_forget(void);
 bool side_is_there(void);
-/* So many events are the snapshot of what stood at the end of the segment before. */
+/* The number of events in the snapshot of the live state at the end of the segment before. */
 void side_note_snapshot(uint64_t events);
 /* In lean recording: a good malloc or free is left out, or poison in a block; or an event states what stands. */
 void side_note_left_good(void);
-/* Likewise so many at once. */
+/* The same for this many at once. */
 void side_add_left_good(uint64_t count);
 void side_note_stated(void);
-/* Memory of freed blocks is handed out again, once so many bytes were handed out: the first time counts, in this
+/* Memory of freed blocks is reused, after this many bytes were handed out: the first time counts, in this
    segment and in all that follow. It takes no lock. */
 void side_note_reuse(uint64_t bytes);
 /* That it has forked a child, which is to be recorded. */
@@ -46,14 +46,14 @@ void side_end_calls(_Atomic uint64_t *calls);
 uint64_t side_length(void);
 /* Notes the modules, with the build id of each and what was not checked, if there are others than were noted. */
 void side_write_modules(void);
-/* Likewise, unless the loader has counted the same generation of them when they were noted. */
+/* The same, unless the loader has counted the same generation of them when they were noted. */
 void side_look_at_generation(uint64_t generation);
 /* The note that was made was of this generation. */
 void side_know_generation(uint64_t generation);
 /* At an end: with those that came by other ways than the loader, if anything there has addresses of code, or if nobody
    has asked the loader, which is 0; else by its generation. */
 void side_end_modules(uint64_t generation);
-/* Likewise, after a library was opened. The lock is taken. */
+/* The same, after a library was opened. The lock is taken. */
 void stream_write_modules(void);
 /* A part of what stands beside the stream in a window, and where it is noted that it has memory. */
 struct side_part {
@@ -79,7 +79,8 @@ void side_note_needed(uint64_t event);
 void side_note_left_out(void);
 /* The process has closed the descriptor of the stream. */
 void side_note_closed_off(void);
-/* How the process ends, with so many events in the stream: ENDING_NONE takes an exec back. What is lost stays lost. */
+/* How the process ends, with this many events in the stream: ENDING_NONE takes an exec back. What is lost stays
+   lost. */
 void side_note_ending(enum ending ending, int number, uint64_t events);
 /* Where a signal has met it: the call site, with its stack and its thread as of a fault; the address that could not be
    accessed, and enum side_how. */

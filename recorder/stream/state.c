@@ -124,7 +124,7 @@ static struct lock lock;
 static struct disturbance before; /* of who has it */
 
 /* How often to look again at a record that another thread has not written yet, or at a lock; and then, if there is
-   time, how often again after a nap of so many nanoseconds. */
+   time, how often again after a sleep of this many nanoseconds. */
 #ifndef IS_PATIENT /* in tests in which no thread is to be given up */
 #define IS_PATIENT 0
 #endif

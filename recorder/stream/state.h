@@ -7,7 +7,7 @@
    - `locked` (locked.h): only who has the lock of the stream.
 
    Locks are taken in this order: that of the allocator (heap.h), then that of the stream. No other lock is taken while
-   the stream's is held. A thread that holds it has all signals blocked, but for SIGBUS, and is not cancelled. */
+   the stream's is held. A thread that holds it has all signals blocked, except SIGBUS, and is not cancelled. */
 #ifndef ASANCOL_STATE_H
 #define ASANCOL_STATE_H
 
@@ -122,8 +122,8 @@ struct above {
     void (*lock_heap)(void);
     void (*unlock_heap)(void);
     bool (*is_in_heap)(void); /* this thread */
-    bool (*close_heap)(void); /* likewise, and no other thread is until it unlocks it; false: one may be */
-    /* Records what the heap has, in at most so many events. It is locked. */
+    bool (*close_heap)(void); /* the same, and no other thread is until it unlocks it; false: one may be */
+    /* Records the contents of the heap, in at most this many events. It is locked. */
     void (*snapshot)(uint64_t most_held, uint64_t room);
     /* How many bytes of freed blocks are held from now on; at any time. */
     void (*hold)(uint64_t bytes);
@@ -184,8 +184,8 @@ static inline bool is_on(void)
 
 /* UNSTARTED to STARTING. False: that was done. */
 bool state_start(void);
-/* From this state to RECORDING, with so many events up to `checked`. False: the stream was lost meanwhile. The lock is
-   held, or there is no other thread yet. */
+/* From this state to RECORDING, with this many events up to `checked`. False: the stream was lost meanwhile. The lock
+   is held, or there is no other thread yet. */
 bool state_record(enum state from);
 /* From RECORDING to another state. Answers the cursor that it had; 0: it was in another one. The lock is held, or this
    thread is undisturbed. */
@@ -211,7 +211,7 @@ bool stream_lock_at_once(void);
 bool stream_lock_within(enum patience patience);
 /* Waits a little, the longer the more often this thread has looked. Nobody is cancelled here. */
 void stream_rest(int looks);
-/* Likewise, if there was not enough of it. */
+/* The same, if there was not enough of it. */
 bool stream_waits_again(int looks, enum patience patience);
 
 #endif

@@ -6,7 +6,7 @@
 #include "stream/state.h"
 
 /* How often to look again at a granule that another thread is bringing up. A signal handler that has interrupted that
-   thread goes on after so many. */
+   thread continues after this many. */
 enum { LOOKS = 10000 };
 
 static enum kind kind_of(unsigned char code)

@@ -110,7 +110,7 @@ static bool leave_closed(uint64_t cursor)
     return true;
 }
 
-/* Likewise. A hub may take no more than so many connections at a time, so this one ends first. What it has at its end
+/* The same. A hub may limit the number of connections, so this one ends first. What it has at its end
    says that there has to be a next one. */
 static bool leave_connection(uint64_t cursor, unsigned window)
 {

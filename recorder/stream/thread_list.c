@@ -6,7 +6,7 @@
 #include "stacks/thread_notes.h"
 #include "stream/side.h"
 
-/* So many threads are put into the list that have led to one. */
+/* The most threads on the way to one that are put into the list. */
 enum { MOST_CREATORS = 32 };
 enum { THREAD_BYTES = SIDE_THREADS * sizeof(struct side_thread) };
 

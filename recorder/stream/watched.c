@@ -56,7 +56,7 @@ static bool is_in_time(unsigned char *at)
     return seen == CODE_NONE || seen == CODE_CLOSE;
 }
 
-/* Writes the code of a record whose other bytes are there, likewise. If it comes too late, the other record says
+/* Writes the code of a record whose other bytes are there, the same. If it comes too late, the other record says
    nothing again. */
 static bool put_code_in_time(unsigned char *at, enum code code)
 {
@@ -105,7 +105,7 @@ static enum holding holding_now(void)
     return above.close_heap() ? HEAP_INTERRUPTED : HEAP_AT_LOCK;
 }
 
-/* Likewise in lean recording, of a bad access to a block, or of a bad free. What it has to find is stated first, with
+/* The same in lean recording, of a bad access to a block, or of a bad free. What it has to find is stated first, with
    the allocator locked: so no other thread changes or states a block between the two. No handler comes, which could
    leave by a jump and leave the lock taken. If nothing is bad any more, nothing is recorded. */
 static bool record_stated(uint32_t entry, struct moment moment, unsigned code_and_width, uint64_t address,

@@ -193,7 +193,7 @@ def check_new(suite, folder, compiler):
         made.cc("-Werror", *argv)
 
 
-# Likewise, and nothing takes these back. GCC says of some what it leaves out.
+# The same, and nothing takes these back. GCC says of some what it leaves out.
 LACKING_FOR_GOOD = {
     "gcc": ["-fdisable-tree-asan -O1", "-fdisable-tree-asan0"],
     "clang": [

@@ -426,7 +426,7 @@ static int queue(void)
     return queue_made;
 }
 
-/* Likewise, of the other kind. */
+/* The same for the other kind. */
 static mqd_t message_queue(void)
 {
     struct mq_attr settings = {.mq_maxmsg = 1, .mq_msgsize = 8};

@@ -80,7 +80,7 @@ REFUSING = bytes(16) + b"\2" + bytes(23)
 ONE_PERMIT = b"\1" + bytes(31)
 # As the C library keeps the line of root, with a zero at its end.
 LENGTH_OF_ROOT = len(":".join(map(str, pwd.getpwuid(0)))) + 1
-# Likewise the line of its group, and after that, at a multiple of 8, the addresses of its members.
+# The same for the line of its group, and after that, at a multiple of 8, the addresses of its members.
 GROUP_OF_ROOT = grp.getgrgid(0)
 LENGTH_OF_GROUP = len(":".join(map(str, GROUP_OF_ROOT[:3]))) + 1 + len(",".join(GROUP_OF_ROOT.gr_mem)) + 1
 LENGTH_OF_GROUP = (LENGTH_OF_GROUP + 7) // 8 * 8 + 8 * (len(GROUP_OF_ROOT.gr_mem) + 1)

@@ -18,7 +18,7 @@ HEAD = """# Calls of the C library
 
 What the recorder records of a call, as loads and stores at the place of the call
 ([RECORDER.md](RECORDER.md#calls-of-the-c-library)). If all of it is good, that is nothing. Calls that [libraries
-make](RECORDER.md#plain-libraries) count as the program's own, but for those of mathematics. `make docs` makes this page
+make](RECORDER.md#plain-libraries) count as the program's own, except those of mathematics. `make docs` makes this page
 from [calls.def](../recorder/calls/calls.def).
 
 A name that the C library at hand does not have is left out when the recorder is built. Names that begin with `__` are

@@ -84,7 +84,7 @@ def check_drawn(suite: Suite, folder: str, compiler: Compiler, level: str, threa
 
 
 def check_segments(suite: Suite, folder: str, compiler: Compiler, threads: int) -> None:
-    """Segments have the faults of the run, but for classes."""
+    """Segments have the faults of the run, except classes."""
     for program, setting in (("inline", "0"), ("every", "1")):
         make(compiler, folder, "drawn.c", f"{folder}/{program}", "-O1", ASANCOL_ALL=setting)
     for seed in SEEDS:

@@ -47,7 +47,7 @@ def check_late(suite: Suite, folder: str, program: str) -> None:
 
 
 def check_run(suite: Suite, folder: str, program: str) -> None:
-    """Likewise under asancol-run."""
+    """The same under asancol-run."""
     ran = run([RUN, "--json", "r.json", "--", program, "late", "4"], folder, ASANCOL=suite.asancol)
     expect(ran.returncode, 99, ran.stderr.decode()[-3000:])
     with open(f"{folder}/r.json", "rb") as file:

@@ -409,7 +409,7 @@ TOOLS = {"asancol-cargo": "cargo", "asancol-fc": "gfortran", "ASANCOL_CC=gdc": "
 
 
 def check_page(suite: Suite, folder: str) -> None:
-    """The commands of the page: what is clean is complete, but for D's."""
+    """The commands of the page: what is clean is complete, except D's."""
     with open(f"{TESTS}/bug.f90", encoding="utf-8") as file:
         write(folder, program_f90=file.read(), program_d=D_PROGRAM)
     crate(folder, lib_rs="pub fn one() -> i32 { 1 }\n#[test] fn is_one() { assert_eq!(one(), 1) }\n")

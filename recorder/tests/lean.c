@@ -45,7 +45,7 @@ static void handlers(int rounds)
     printf("%d\n", (int)ticks);
 }
 
-/* Likewise while another thread allocates, too. */
+/* The same while another thread allocates, too. */
 static volatile sig_atomic_t has_ended;
 static void *beside(void *of)
 {

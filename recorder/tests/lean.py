@@ -56,7 +56,7 @@ def check_handlers(suite: Suite, folder: str, program: str) -> None:
 
 
 def check_threaded(suite: Suite, folder: str, program: str) -> None:
-    """Likewise if there are several threads. While all of them share something, as when a unit is taken, it is known
+    """The same if there are several threads. While all of them share something, as when a unit is taken, it is known
     that an access is bad, and no more: on a quiet machine of one in twenty, and of one in three on a busy one."""
     ran = run([program, "threaded", "200000"], folder, ASANCOL_TRACE="t.trace", ASANCOL_FULL="0")
     kinds = kinds_of(segments_of(suite, f"{folder}/t.trace"))
@@ -108,14 +108,14 @@ def check_turns(suite: Suite, folder: str, program: str) -> None:
 
 
 def check_large(suite: Suite, folder: str, program: str) -> None:
-    """Likewise in a block of more bytes than a checker holds."""
+    """The same in a block of more bytes than a checker holds."""
     record(suite, folder, [program, "large", "1"], ONE, ASANCOL_FULL="0")
     kinds = kinds_under(suite, folder)
     expect(kinds, {"load heap-use-after-free": 6, "load heap-buffer-overflow": 2, "free double-free": 2}, "faults")
 
 
 def check_used_again(suite: Suite, folder: str, program: str) -> None:
-    """That freed memory was handed out again is noted once there is too much of it: in all segments of the process that
+    """That freed memory was reused is noted once there is too much of it: in all segments of the process that
     follow, and in those of its child."""
     blocks = "200000"
     for words, quarantine, has_come in (("scattered", "1000000", True), ("scattered", "", False),
@@ -143,7 +143,7 @@ def check_limited(suite: Suite, folder: str, program: str) -> None:
 
 
 def check_joined(suite: Suite, folder: str, program: str) -> None:
-    """Likewise for blocks of any size, of what lies side by side: also of what has no notes any more."""
+    """The same for blocks of any size, of what lies side by side: also of what has no notes any more."""
     ran = run([program, "joined", "400"], folder, ASANCOL_TRACE="t.trace", ASANCOL_WHERE="1", ASANCOL_FULL="0")
     expect((ran.returncode, ran.stderr), (0, b""), "the run")
     expect([int(it) > 150 for it in ran.stdout.split()], [True] * 7, f"{ran.stdout!r} megabytes")

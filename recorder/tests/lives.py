@@ -1,4 +1,4 @@
-"""What becomes of processes: however they live and end, their trace has what they did."""
+"""What happens to processes: however they live and end, their trace has what they did."""
 
 import os
 import shutil
@@ -11,7 +11,7 @@ from support import MARK, TESTS, Trace, environment, expect, limited, reports, r
 from testing.programs import PATIENCE, call
 
 
-# What becomes of processes: the status (or minus the signal), the fate of the trace, and its reports.
+# What happens to processes: the status (or minus the signal), the fate of the trace, and its reports.
 LIVES: Dict[str, Tuple[int, str, List[str]]] = {
     "ends_normally": (0, "closed", [MARK]),
     "ends_by__exit": (7, "closed", [MARK]),

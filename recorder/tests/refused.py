@@ -122,7 +122,7 @@ def check_refused(suite: Suite, folder: str, compiler: Compiler) -> None:
 
 
 def check_execs(_suite: Suite, folder: str, compiler: Compiler) -> None:
-    """Under a hub the recorder looks at what becomes of the process."""
+    """Under a hub the recorder looks at what happens to the process."""
     compiler.c(folder, [f"{TESTS}/execs.c"], "alone", "-w", native=True)
     compiler.c(folder, [f"{TESTS}/execs.c"], "recorded", "-w")
     peers, said = run_under(folder, ["./recorded"])

@@ -30,7 +30,7 @@ LD_LIBRARY_PATH LD_ORIGIN_PATH LD_PRELOAD LD_PROFILE LD_SHOW_AUXV LOCALDOMAIN LO
 MALLOC_CHECK_ MALLOC_MMAP_MAX_ MALLOC_MMAP_THRESHOLD_ MALLOC_PERTURB_ MALLOC_TOP_PAD_ MALLOC_TRACE
 MALLOC_TRIM_THRESHOLD_ NIS_PATH NLSPATH RESOLV_HOST_CONF RES_OPTIONS TMPDIR TZDIR""".split()
 
-# What becomes of the program's file, by the name of the way.
+# What happens to the program's file, by the name of the way.
 WAYS = {
     "set-user-ID": ["chmod", "4755"],
     "set-group-ID": ["chmod", "2755"],

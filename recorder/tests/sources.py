@@ -44,7 +44,7 @@ def names(object_file: str, *which: str) -> Set[str]:
 
 
 def own_names(object_file: str) -> Set[str]:
-    """Returns what an object defines, but for the weak names that are the program's: the recorder must not allocate
+    """Returns what an object defines, except the weak names that are the program's: the recorder must not allocate
     for itself, nor start a thread."""
     ran = call(["nm", "--defined-only", "--extern-only", object_file], stdout=subprocess.PIPE, check=True)
     lines = [line.split() for line in ran.stdout.decode().splitlines()]

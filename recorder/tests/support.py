@@ -51,7 +51,7 @@ class Trace:
 
 
 def noted(path):
-    """The lines of the note that a link has left in a program, but for the first, which says that there is one."""
+    """The lines of the note that a link has left in a program, except the first, which says that there is one."""
     with open(path, "rb") as file:
         text = file.read().partition(b"asancol\0linked\n")[2].partition(b"\0")[0]
     return text.decode().splitlines()

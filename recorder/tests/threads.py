@@ -61,7 +61,7 @@ def seen_in(suite: Suite, path: str) -> Tuple[List[Threads], Creators]:
 
 
 def recorded(suite: Suite, folder: str, program: str, *argv: str, **settings: str) -> Tuple[List[Threads], Creators]:
-    """Likewise of a process, or of the one that has reports of several."""
+    """The same for a process, or of the one that has reports of several."""
     for path in glob.glob(f"{folder}/*.trace*"):
         os.unlink(path)
     ran = run([program, *argv], folder, ASANCOL_TRACE="%p.trace", ASANCOL_WHERE="1", **settings)

@@ -71,7 +71,7 @@ static const struct compiler compilers[] = {
         .without_plugin = GCC_CALLS,
     },
     {
-        .says = "clang version ",       /* likewise */
+        .says = "clang version ",       /* the same */
         .has_text = "libclang-cpp.so.", /* of which it is made: its version follows */
         .flags = CLANG_CHECKS("1000000000", "1"),
         .all_flags = CLANG_CHECKS("0", "0"),

@@ -22,7 +22,7 @@ struct compiler {
     struct flags use_after_return[USES_AFTER_RETURN]; /* with these */
     struct flags after;     /* after the caller's arguments, with inline checks */
     struct flags last;      /* after them in any case, for what is compiled: none of them takes these back */
-    const char *header;     /* a file of the recorder's that it includes after the caller's, likewise; or null */
+    const char *header;     /* a file of the recorder's that it includes after the caller's, the same; or null */
     const char *intrinsics; /* and one in any case, which makes accesses of what its checks do not know; or null */
     const char *own_number; /* before a number that makes the noted switches of each object its own, or null */
     const char *plugin;     /* a file of the recorder's that may be there, and adds checks (plugin.c); or null */

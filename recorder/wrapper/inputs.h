@@ -8,10 +8,10 @@
 enum input {
     INPUT_OBJECT,       /* the linker takes it as it is */
     INPUT_ASSEMBLED,    /* it is only assembled, or is in the compiler's own language */
-    INPUT_ASSEMBLY,     /* likewise, and the compiler is given what it is given for sources */
+    INPUT_ASSEMBLY,     /* the same, and the compiler is given what it is given for sources */
     INPUT_PREPROCESSED, /* it is compiled */
     INPUT_TEXT,         /* it is preprocessed and compiled */
-    INPUT_HEADER        /* likewise, and not linked */
+    INPUT_HEADER        /* the same, and not linked */
 };
 
 /* What -x says of the files after it: by default their names say it. */

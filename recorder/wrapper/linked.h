@@ -13,7 +13,7 @@
 struct linked {
     bool has_marked; /* an object that was compiled so, or what GCC compiles so at the link */
     bool has_lto;    /* one that is compiled when it is linked */
-    bool has_bitcode;   /* likewise, of Clang */
+    bool has_bitcode;   /* the same, of Clang */
     bool may_open;      /* one that may open libraries */
     char *unmarked_lto; /* the first of these that was not compiled so, or null */
 };

@@ -4,7 +4,7 @@
 #include <stdlib.h>
 #include <string.h>
 
-/* So many names are kept. */
+/* The most names that are kept. */
 enum { MAX_NAMES = 1000 };
 
 bool names_have(const struct names *names, const char *name)

@@ -35,7 +35,7 @@ static void look_for(struct search *search, const char *name)
             search->found->is_own[i] = search->found->has_own = true;
 }
 
-/* The recorder's own are weak, but for those of the operators. mold makes all of them local, and so keeps no sign. */
+/* The recorder's own are weak, except those of the operators. mold makes all of them local, and so keeps no sign. */
 static void look_at_wrap(struct search *search, const Elf64_Sym *symbol, const char *name)
 {
     static const char front[] = "__wrap_", operator_front[] = "__wrap__Z";

@@ -45,7 +45,7 @@ class Frame(NamedTuple):
     column: int = 0
     is_inlined: bool = False
     text: str = ""  # of the line
-    note: str = ""  # in place of all others: why nothing is known, but for the program as the module of a crash
+    note: str = ""  # in place of all others: why nothing is known, except the program as the module of a crash
     # The column in `text`, from 1; 0 if it is not known. None: the line may not be the one that was built.
     caret: Optional[int] = None
 

@@ -35,7 +35,7 @@ NO_MODULES = "the modules of a process are not known, as where /proc is not ther
 
 LEAK_KINDS = (FINDING_LEAK, FINDING_INDIRECT_LEAK)
 
-# So many threads of a finding are shown. The recorder names no more.
+# The most threads of a finding that are shown. The recorder names no more.
 MAX_THREADS = 100
 
 # The places of calls, the innermost first; none, if nothing is known.
@@ -94,7 +94,7 @@ class Gatherer:
                  leaks: str = YES, counts: Optional[Callable[[Finding], bool]] = None) -> None:
         self.results = results
         self.take_rules: Callable[[List[str]], None] = lambda lines: None  # the suppressions of a program
-        self.leaks = leaks  # what becomes of them
+        self.leaks = leaks  # what happens to them
         self.counts = counts  # which leaks count that are summed up; None: all
         self.sum = Sum()
         self.run = run

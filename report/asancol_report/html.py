@@ -28,7 +28,7 @@ from .words import command_line, plural, printable, shown_path
 PAGE = os.path.join(os.path.dirname(os.path.abspath(__file__)), "page.html")
 # Lines of source before and after the one that a frame names.
 AROUND = 3
-# So many places and processes are shown. All of them are in the JSON lines.
+# The most places and processes that are shown. All of them are in the JSON lines.
 MAX_FINDINGS = 5000
 MAX_PROCESSES = 5000
 

@@ -164,7 +164,7 @@ def thread_entry(thread: Thread) -> Entry:
 
 
 def finding_entry(finding: Finding, lost: Leaks) -> Entry:
-    """Returns what is the same of a finding in all runs, but for what a leak has lost in one."""
+    """Returns what is the same of a finding in all runs, except what a leak has lost in one."""
     entry: Entry = {
         "fingerprint": finding.fingerprint, "class": finding.class_name,
         "access": finding.access, "size": finding.size, "address": f"{finding.address:x}",

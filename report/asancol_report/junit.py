@@ -20,7 +20,7 @@ from .words import command_line, date_and_time, printable, shown_path
 
 # What XML 1.0 does not allow, whether it is escaped or not.
 NOT_XML = re.compile("[^\t\n\r\x20-\ud7ff\ue000-\ufffd\U00010000-\U0010ffff]")
-# A failure's message names so many places.
+# The most places that a failure's message names.
 MAX_NAMED = 5
 
 

@@ -8,7 +8,7 @@ from typing import Callable, Dict, Hashable, Iterable, List, NamedTuple, Tuple
 from .class_names import LEAK
 from .words import plural
 
-# What becomes of leaks.
+# What happens to leaks.
 SUMMARY, NO, YES = "summary", "no", "yes"
 
 

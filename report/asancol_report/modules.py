@@ -212,7 +212,7 @@ class Modules:
         return sorted({module.trouble for module in self.by_key.values() if module.trouble})
 
     def without_lines(self) -> List[str]:
-        """Returns the programs and objects of which places were looked up, and none has a line; but for the
+        """Returns the programs and objects of which places were looked up, and none has a line; except the
         system's, and plain programs that have the recorder preloaded."""
         bare = {module.path for module in self.by_key.values() if module.names and not module.trouble
                 and not (module.elf and module.elf.is_program and not module.elf.is_linked)

@@ -24,7 +24,7 @@ def is_regular(descriptor: int) -> bool:
 
 
 def read_at(descriptor: int, offset: int, length: int) -> bytes:
-    """Returns the bytes from an offset on: `length` of them, or as many as there are."""
+    """Returns the bytes from an offset on: `length` of them, or up to the end."""
     pieces = []
     while length > 0:
         try:

@@ -96,7 +96,7 @@ class Run:
 
     @property
     def troubles(self) -> List[str]:
-        """Why the run was incomplete, but for its processes."""
+        """Why the run was incomplete, except its processes."""
         troubles = []
         if not self.has_ended:
             troubles.append("INCOMPLETE: asancol-run ended before the run did")
@@ -268,7 +268,7 @@ class Results:
         return sorted(self.places.values(), key=lambda finding: (finding.order, finding.fingerprint))
 
     def placed_crashes(self) -> List[Crash]:
-        """Returns the places of crashes, likewise. Those that no report has led to come first."""
+        """Returns the places of crashes, the same. Those that no report has led to come first."""
         return sorted(self.crash_places.values(), key=lambda it: (it.is_consequence, it.order, it.fingerprint))
 
     def all_places(self) -> List[Finding]:

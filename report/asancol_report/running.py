@@ -31,8 +31,8 @@ def start(argv: Sequence[str], stdin: int, stdout: int, given: int = -1, is_sile
 
 
 def wait(child: int, patience: float = 0) -> int:
-    """Waits for a program and returns its status; minus a signal that has ended it. One that takes longer than so many
-    seconds is ended; 0 is no limit."""
+    """Waits for a program and returns its status; minus a signal that has ended it. One that takes longer than this
+    number of seconds is ended; 0 means no limit."""
     if patience:
         end_late(child, patience)
     return os.waitstatus_to_exitcode(os.waitpid(child, 0)[1])

@@ -21,7 +21,7 @@ SCHEMA = "https://json.schemastore.org/sarif-2.1.0.json"
 ROOT = "SRCROOT"
 # GitHub ranks by this: 7.0 to 8.9 is "high".
 SEVERITY = "8.0"
-# So many machines are named for a result.
+# The most machines that are named for a result.
 MAX_MACHINES = 100
 
 Part = Dict[str, Any]

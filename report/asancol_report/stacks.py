@@ -15,7 +15,7 @@ RECORDER = re.compile(r"(?:\A|/)recorder/(?:base|calls|heap|interface|process|sh
 MAX_SHOWN = 100
 BEFORE_CARET = 60
 
-# Calls come again if so many frames are those before them, in groups of so many at most.
+# Calls are repeated if at least this many frames are the same as those before, in groups of at most this size.
 MIN_REPEATED, MAX_GROUP = 3, 8
 SAME_CALLS = "the same calls"
 # The number of a frame, 1 and nothing; or that of the first of some that are one line, how many they are, and what has

@@ -16,11 +16,11 @@ from .suppressions import suppression_of
 from .variables import Variable
 from .words import date_and_time, plural, printable, shown_path
 
-# So many names of what was not checked are in the summary.
+# The most names of unchecked code in the summary.
 MAX_UNCHECKED_SAID = 5
-# So many places are named under the first one of a block.
+# The most places that are named under the first one of a block.
 MAX_ALSO = 10
-# So many places have a report in the text, and so many variables of a frame are named.
+# The most places with a report in the text, and the most variables of a frame.
 MAX_PLACES = 50
 MAX_VARIABLES = 16
 

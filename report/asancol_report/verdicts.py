@@ -16,7 +16,7 @@ END = re.compile(
     rb"p\d{1,9} end [a-z -]+?(?: (?:events|checked) \d{1,20})?(?: offset \d{1,20})?(?: reports \d{1,20})?"
 )
 
-# Lines are read in pieces of so many bytes, and no line is longer than this.
+# Lines are read in pieces of this many bytes, and no line is longer.
 PIECE = 1 << 20
 MAX_LINE_LENGTH = 1 << 12
 
@@ -40,7 +40,7 @@ LookUp = Callable[[int], Tuple[int, bool]]
 
 
 class Group:
-    """Lines of one process that are the same but for their events and addresses."""
+    """Lines of one process that are the same except their events and addresses."""
 
     __slots__ = ("fault", "count", "first")
 

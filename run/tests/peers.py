@@ -23,7 +23,7 @@ for peer in peers:
         peer.sendall(b"ASTR\\2\\0\\0\\0" + b"\\4" + b"\\1" * 6 + b"\\0\\0" + b"\\7")
 time.sleep(float(sys.argv[2]))
 """
-# Likewise, in a child that is gone once it has; what it has connected stays open.
+# The same in a child that is gone once it has; what it has connected stays open.
 GONE = """
 import os, socket, sys, time
 peer = socket.socket(socket.AF_UNIX)

@@ -341,7 +341,7 @@ def build(compiler: str, program: str) -> None:
 
 
 def check_recorded(suite: Suite, folder: str, program: str) -> None:
-    """Programs with a small limit: the lines are those of one that never comes to it, but for the segments. So they are
+    """Programs with a small limit: the lines are those of one that never comes to it, except the segments. So they are
     if good mallocs are not recorded, which begins segments only at faults."""
     for words, status, texts in (
         ("blocks 3000 -1", 0, ["no reports; 1 process, 600", " events; all complete"]),

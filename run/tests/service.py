@@ -167,7 +167,7 @@ def check_threads(suite: Suite, folder: str) -> None:
 
 
 def check_silent(suite: Suite, folder: str) -> None:
-    """Peers that say nothing hold nobody up, but for the places that they have: who has none waits."""
+    """Peers that say nothing hold nobody up, except the places that they have: who has none waits."""
     service = Service(suite, folder, "--connections", "3")
     silent = [service.connect() for _ in range(2)]
     first = service.record(suite.program, "past")

@@ -379,7 +379,7 @@ def check_lost_mark(suite: Suite, folder: str) -> None:
 
 
 def check_other_places(suite: Suite, folder: str) -> None:
-    """Likewise in another network, where there are other names; there also if the folder of the run is not where each
+    """The same in another network, where there are other names; there also if the folder of the run is not where each
     looks."""
     lost = build(folder, "lost", LOST, "-static")
     for line in (["unshare", "-n", "env", "-i", lost], ["env", "-i", "unshare", "-n", "-p", "-f", lost]):

@@ -59,7 +59,7 @@ int main(int count, char **argv) {
 
 
 def check_variables(suite: Suite, folder: str) -> None:
-    """By both compilers a report has the name of the variable, and where it is declared, but for a literal by GCC."""
+    """By both compilers a report has the name of the variable, and where it is declared, except a literal by GCC."""
     with open(f"{folder}/variables.c", "w", encoding="utf-8") as file:
         file.write(VARIABLES)
     for compiler in filter(shutil.which, ("gcc", "clang")):

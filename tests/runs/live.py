@@ -68,7 +68,7 @@ def one_file_on_one_thread(program):
 def without_starts(came, workers, is_live, refuses):
     """Which of the senders that came are not started, where the start of each thread fails whose
     number `refuses` chooses, and how many starts there are. The workers that have a sender come
-    first, but for worker 0 without --live, and then a reader for each sender with a worker."""
+    first, except worker 0 without --live, and then a reader for each sender with a worker."""
     started = sorted({sender % workers for sender in came} - (set() if is_live else {0}))
     lost = {worker for number, worker in enumerate(started, 1) if refuses(number)}
     checked = [sender for sender in came if sender % workers not in lost]

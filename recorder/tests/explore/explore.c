@@ -1,6 +1,6 @@
 /* Explores what threads do that share the stream: every order of their steps with a few preemptions, by a search in
    depth, or many orders by chance. A thread is a context of its own in one thread of the system. It goes on until it
-   waits, but for the points at which the explorer takes the processor away. So a run is determined by what was chosen
+   waits, except the points at which the explorer takes the processor away. So a run is determined by what was chosen
    at the points, and can be done again: the memory of the program is put back before each run. */
 #define _GNU_SOURCE
 #include "explore.h"

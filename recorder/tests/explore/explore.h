@@ -12,7 +12,7 @@
 
 /* Before an operation on what is shared; the texts are for the list of steps. */
 void explore_point(const char *what, const char *function, int line);
-/* Likewise, where nothing is changed: a thread that looks again and again waits until something has changed. */
+/* The same, where nothing is changed: a thread that looks again and again waits until something has changed. */
 void explore_look(const char *what, const char *function, int line);
 /* After a change. */
 void explore_changed(void);

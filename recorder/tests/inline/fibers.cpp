@@ -1,4 +1,4 @@
-/* Fibers of C++: `fibers NAME`. Each is sound but for the faults that its comment says, all of them in frames that go
+/* Fibers of C++: `fibers NAME`. Each is sound except the faults that its comment says, all of them in frames that go
    on. The stack is a static array, and is one again at the end. */
 #include <cstdlib>
 #include <cstring>
