@@ -7,7 +7,7 @@
 
 #include "base/system.h"
 
-/* Written before there is a second thread, or with none of them in the middle of what is to be undisturbed. */
+/* Written before there is a second thread, or with none of them in the middle of protected code. */
 static _Atomic uint64_t faults;
 
 static uint64_t most_signals(void)

@@ -1,5 +1,5 @@
-/* The handlers that a program sets. Where it sets the default, or asks what is there, it must not meet the recorder's
-   own. */
+/* The handlers that a program sets. Where it sets the default, or asks for the current one, it must not meet the
+   recorder's own. */
 #define _GNU_SOURCE
 #include <signal.h>
 
@@ -54,7 +54,7 @@ CHECK sighandler_t checked_sysv_signal(int number, sighandler_t handler)
     return set_handler(number, handler, (int)SA_RESETHAND | SA_NODEFER);
 }
 
-/* It asks for what is there by the C library's own sigaction, and may block the signal. */
+/* It asks for the current one by the C library's own sigaction, and may block the signal. */
 REAL(sighandler_t, sigset, (int, sighandler_t));
 
 GUARD_OWN(sigset);

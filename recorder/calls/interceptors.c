@@ -32,7 +32,7 @@
     "\t.pushsection .rodata\n3:\t.asciz \"" #name "\"\n\t.popsection\n"
 #endif
 
-/* What is weak brings no stub in. */
+/* A weak name brings no stub in. */
 #if defined IN_SHARED_OBJECT || defined IS_STATIC
 #define ASKS_FOR_STUBS
 #else

@@ -85,7 +85,7 @@ static const char more_than_one;
 
 struct library library = {.__errno_location = own_error, .__libc_single_threaded = &more_than_one};
 
-/* The loader's list of what is loaded, with the program first. */
+/* The loader's list of modules, with the program first. */
 #ifdef IS_PRELOAD
 
 static const struct link_map *loaded(void)
@@ -207,7 +207,7 @@ struct search {
     bool is_past_own;
 };
 
-/* Whether this is the module that has the recorder: the program comes first, and after it what is preloaded. */
+/* Whether this is the module that has the recorder: the program comes first, and after it preloaded libraries. */
 static bool is_own_module(const struct dl_phdr_info *module)
 {
 #ifdef IS_PRELOAD

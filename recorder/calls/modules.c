@@ -6,7 +6,7 @@
 #include "interface/hooks.h"
 #include "stacks/cfi.h"
 
-#ifndef IN_SHARED_OBJECT /* what is opened may call any function */
+#ifndef IN_SHARED_OBJECT /* an opened library may call any function */
 __asm__(".pushsection .text\n\t.balign 4\n\t.long asancol_every_call - .\n.popsection\n");
 #endif
 

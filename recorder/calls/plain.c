@@ -6,7 +6,7 @@
 
    If this is preloaded, the program is plain too, and is looked at as they are.
 
-   The loader's lock is held while slots are looked at (dl_iterate_phdr). It guards what is `static` here. */
+   The loader's lock is held while slots are looked at (dl_iterate_phdr). It guards the `static` variables here. */
 #define _GNU_SOURCE
 #include "calls/plain.h"
 
@@ -96,9 +96,9 @@ void *plain_instead_of(void *found, const char *name, bool is_new)
     return found;
 }
 
-/* What a library has opened by itself it asks for its functions first: so what was loaded is looked at then. dlsym and
-   dlvsym answer by their caller, so they are jumped to, unless they would answer the C library's function where the
-   recorder has one. If that comes next after the recorder, it does for all others. */
+/* What a library has opened by itself it asks for its functions first: so the loaded libraries are looked at then.
+   dlsym and dlvsym answer by their caller, so they are jumped to, unless they would answer the C library's function
+   where the recorder has one. If that comes next after the recorder, it does for all others. */
 struct answer {
     void *own; /* or null: `by` says it */
     uintptr_t by;

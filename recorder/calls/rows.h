@@ -6,7 +6,7 @@
 #include "interface/hooks.h"
 #include "stacks/cfi.h"
 
-/* What is read and written. */
+/* The reads and writes. */
 
 #define READS(start, size) call_checks(CODE_LOAD, start, (size_t)(size), call)
 #define WRITES(start, size) call_checks(CODE_STORE, start, (size_t)(size), call)

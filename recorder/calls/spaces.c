@@ -55,7 +55,7 @@ CHECK void *checked_mremap(void *old, size_t old_size, size_t size, int flags, .
     return found;
 }
 
-/* Not what was never touched: the shadow has 32 TiB of addresses. Nor is it refused because of these, as by the limit
+/* Not untouched memory: the shadow has 32 TiB of addresses. Nor is it refused because of these, as by the limit
    of users who may lock little: then nothing is locked, as with AddressSanitizer. */
 GUARD_OWN(mlockall);
 CHECK int checked_mlockall(int flags)
@@ -67,7 +67,7 @@ CHECK int checked_mlockall(int flags)
     return 0;
 }
 
-/* A stack of the program's own begins anew. What was left on it in the middle will not go on. */
+/* A stack of the program's own begins anew. Functions interrupted on it will not continue. */
 GUARD_OWN(makecontext);
 CHECK void checked_makecontext(ucontext_t *context, void function(void), int count, ...)
 {

@@ -320,7 +320,7 @@ HELPER static void reads_set(const void *set, int count, struct call call)
 
 #define READS_SET(set, count) reads_set(set, count, call)
 
-/* What is waited for, and what was found. */
+/* The awaited events, and the found ones. */
 HELPER static void checks_files(enum code code, struct pollfd *files, nfds_t count, struct call call)
 {
     enum { MOST_FILES = 1 << 20 }; /* as the system has it */

@@ -163,7 +163,7 @@ static void *place_block(size_t size, size_t alignment, struct origin from, cons
         paint_redzones(address, size);
     populate(block, address, size);
     note_malloc(address, size);
-    /* The record may be the first of a segment, whose snapshot has what is live: this block is not yet. */
+    /* The record may be the first of a segment, whose snapshot has the live blocks: this one is not live yet. */
     block_go(block, BLOCK_LIVE);
     if (!heap.is_unpainted)
         paint_live(address, size);
@@ -329,7 +329,7 @@ static __attribute__((noinline)) void give_back_slowly(void *pointer, struct ori
         record_bad_free(address, from.caller, call);
     if (is_telling())
         above.tell_waiting();
-    /* Out of the lock: what is called before the end may allocate. */
+    /* Outside the lock: a function called before the end may allocate. */
     if (UNLIKELY(is_bad) && atomic_load(&halt_is_on)) {
         struct access access = access_of(CODE_FREE, address, 0, from.caller, call);
         above.halt_at(CODE_FREE, 0, address, from.caller, &access);

@@ -30,8 +30,8 @@ enum { REGION_UNITS = 1 << 9, REGIONS = UNITS / REGION_UNITS };
 enum { BINS = 64 };
 
 /* The notes on units and blocks are read without the lock too, by NOTE_NOW (nearest.c). So whoever has the lock writes
-   what is read there by SET_NOTE, and may read it as it is. Relaxed: whoever reads without the lock believes nothing of
-   it. */
+   notes that are read there by SET_NOTE, and may read it as it is. Relaxed: whoever reads without the lock believes
+   nothing of it. */
 #define SET_NOTE(note, value) __atomic_store_n(&(note), value, __ATOMIC_RELAXED)
 #define NOTE_NOW(note) __atomic_load_n(&(note), __ATOMIC_RELAXED)
 
@@ -72,7 +72,7 @@ struct call_sites {
 
 enum unit_kind { UNIT_NEW, UNIT_SLAB, UNIT_RUN, UNIT_RUN_BODY, UNIT_FREE, UNIT_FREE_END };
 
-/* What is done with a slab or a run whose addresses are handed out once (shards.c). */
+/* The use of a slab or a run whose addresses are handed out once (shards.c). */
 enum unit_form {
     FORM_NONE,
     FORM_OPEN,     /* a shard takes slots from it */
@@ -86,7 +86,7 @@ enum unit_form {
 
 struct unit {
     uint8_t kind;
-    uint8_t stale;  /* the period since which it has bytes of what was there; 0: it got new memory, of zeros */
+    uint8_t stale;  /* the period since which it has old bytes; 0: it got new memory, of zeros */
     uint16_t lead;  /* of a slab: how many bytes come before its first slot */
     uint32_t count; /* of a run or a free run: its units; in its body or at its end: how far back it begins; of a slab:
                        what counts its slots (slots_in) */
@@ -223,8 +223,8 @@ static inline uintptr_t block_address(const struct block *block, uintptr_t slot)
 bool arena_find(void);
 /* Makes room for the call sites of blocks, which takes memory as it is written to. */
 void arena_keep_call_sites(void);
-/* A handler has jumped out of the allocator: so what is mapped now may be mapped already, by what it has interrupted,
-   and is nobody's. */
+/* A handler has jumped out of the allocator: so memory to be mapped now may be mapped already, by what it has
+   interrupted, and is nobody's. */
 extern _Atomic bool arena_was_left;
 /* Makes whole pages of the range usable, which are zeros. */
 bool arena_give_memory(void *start, size_t bytes);

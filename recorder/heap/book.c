@@ -11,7 +11,7 @@
    of the process need not look at the book: it is stated when the next fault comes near. An entry whose unit was opened
    again since is stale. It serves for another block of its size at its place, unless poison was stated in its span.
 
-   What is stated must not meet what the checker has. If another entry is in the way, the stream goes on in its next
+   A stated block must not meet one of the checker's. If another entry is in the way, the stream goes on in its next
    segment, and the book is empty. So it does if more spans would be held than the checker may hold. Hence the checker
    never releases a block, and knows of each entry what stands here. It holds more than the allocator's bound says
    (held_by_checker); a freed block that is larger than that is stated in pieces, each a block of its own. */
@@ -256,7 +256,7 @@ static bool state_byte(struct entry *entry, uintptr_t granule, unsigned has)
     return has == GRANULE || record_poison_here(KIND_USER, granule + has, GRANULE - has);
 }
 
-/* The byte of a granule. The shadow of what is freed for good says only that it is bad. */
+/* The byte of a granule. The shadow of retired memory says only that it is bad. */
 static unsigned char shade_of(uintptr_t granule)
 {
     struct found block;
@@ -312,7 +312,7 @@ static bool state_frame(uintptr_t granule)
     return record_poison_here(KIND_STACK, granule + has, bad_bytes(has));
 }
 
-/* What is to be done if something could not be stated in the segment that there was. */
+/* The next step if something could not be stated in the segment that there was. */
 static enum stating go_on(unsigned segment, bool has_some)
 {
     if (atomic_load(&STREAM->segment) != segment || (has_some && switching_begin_anew()))
@@ -339,7 +339,7 @@ enum stating book_state_access(uint64_t address, unsigned width, enum holding ho
     return is_again ? STATING_AGAIN : state_as_poison(granule, KIND_USER);
 }
 
-/* Whether what the checker has at an address is what is there. */
+/* Whether the checker has the right block at an address. */
 static bool state_freed(const struct block *block, const struct entry *entry)
 {
     if (block == NULL)

@@ -15,15 +15,15 @@
 #include "stream/side.h"
 #include "stream/state.h"
 
-/* What is held before the settings are read is held, too. */
+/* Blocks held before the settings are read are held, too. */
 AS_TABLE struct heap heap;
 _Atomic uint64_t heap_bound = QUARANTINE_BOUND;
 
 _Thread_local struct visit this_visit;
 static _Thread_local bool is_over;
 
-/* What signal handlers have freed while this thread was in here: the newest first, and what was used for one and is not
-   any more. A handler puts one in at the front of the one list and takes the front of the other, as may another handler
+/* What signal handlers have freed while this thread was in here: the newest first, and entries that are no longer used.
+   A handler puts one in at the front of the one list and takes the front of the other, as may another handler
    that comes between. Only this thread does the reverse, when no handler is in the middle of that: so whoever finds the
    front that it has read finds the list that it has read. */
 struct deferred {

@@ -118,7 +118,7 @@ static size_t alignment_or_none(size_t alignment)
     return alignment < sizeof(void *) ? 0 : alignment;
 }
 
-/* What is wrong with it. FINDING_NONE: nothing. */
+/* Its mistake, or FINDING_NONE. */
 static enum finding_kind kind_of(const struct block *block, const struct release *release)
 {
     if (block->family != release->family)

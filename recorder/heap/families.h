@@ -18,7 +18,7 @@ struct release {
     size_t alignment, size_and_one; /* as heap_called_by has them */
 };
 
-/* Notes what is wrong with that, if it is known to be. The allocator's lock is held. */
+/* Notes a known mistake in it. The allocator's lock is held. */
 bool families_differ(const struct block *block, const struct release *release);
 void families_look_at(const struct block *block, const struct release *release);
 

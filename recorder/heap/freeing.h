@@ -31,7 +31,7 @@ static inline void note_left_out(struct shard *shard)
         count_left_out(shard);
 }
 
-/* What is counted in shards is counted beside the stream too. At any time. */
+/* The counts of shards are also counted beside the stream. At any time. */
 void note_all_left_out(void);
 
 #endif

@@ -25,8 +25,8 @@ bool heap_is_entered(void);
 /* This thread is about to jump to this stack pointer: maybe out of the allocator, which a signal handler of it has
    interrupted. */
 void heap_left_by_jump(uintptr_t target);
-/* This thread ends the process, maybe in a signal handler that has interrupted it in the allocator: what was freed
-   there is freed now. */
+/* This thread ends the process, maybe in a signal handler that has interrupted it in the allocator: blocks freed there
+   are freed now. */
 void heap_ends_here(void);
 /* Whether it has the allocator for itself: also in a signal handler that has interrupted it in there. */
 bool heap_is_locked_here(void);
@@ -34,7 +34,7 @@ bool heap_is_locked_here(void);
    can't be, or not soon. Undisturbed. */
 bool heap_close_here(void);
 /* Records what stands: a malloc for each block that is live, a malloc and a free for each that is held, and poison for
-   what was released and for what the process has poisoned. Of the held blocks the oldest are released until at most
+   released memory and the process's own poison. Of the held blocks the oldest are released until at most
    this many are held and the events fit into the room. In lean recording nothing is recorded, and the
    book is empty then (book.h). The heap is locked. */
 void heap_snapshot(uint64_t most_held, uint64_t room);

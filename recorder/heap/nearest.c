@@ -71,7 +71,7 @@ static void find_in_slab(uint32_t number, const struct unit *unit, uintptr_t add
     if (unit->slot_size < MIN_SLOT_SIZE || unit->slot_size > UNIT)
         return;
     if (address < start) {
-        slot->end = start; /* what is before the first slot */
+        slot->end = start; /* the bytes before the first slot */
         return;
     }
     uint32_t index = (uint32_t)(address - start) / unit->slot_size;
@@ -133,7 +133,7 @@ static uint64_t distance_of(uintptr_t address, uintptr_t start, uint64_t size)
     return address - start < size ? 0 : address - start - size + 1;
 }
 
-/* Whether a block is in this slot. It is what was looked for if it is nearer than so far; of two that are as near it is
+/* Whether a block is in this slot. It is the nearest if it is nearer than those so far; of two that are as near it is
    the one before the address. */
 static bool look_at(const struct slot *slot, uintptr_t address, uint64_t *least, struct nearest *found)
 {

@@ -17,14 +17,14 @@ struct use {
     size_t size_and_one; /* that a delete knows; 0: it does not */
 };
 
-/* What was said of this thread's next one: its use, and the caller for whom the C library allocates, with the frame of
-   the function that said so. */
+/* The facts given of this thread's next one: its use, and the caller for whom the C library allocates, with the frame
+   of the function that said so. */
 extern _Thread_local struct said {
     struct use use;
     uintptr_t caller, frame;
 } said;
 
-/* What was said of the use, which is then taken back. */
+/* The given use, which is then taken back. */
 static inline struct use origin_take_use(void)
 {
     struct use use = {FAMILY_MALLOC, 0, 0};

@@ -1,4 +1,4 @@
-/* What was never a part of a block's span is poison, so an access is found however far from a block it is: memory
+/* Memory that was never part of a block's span is poison, so an access is found however far from a block it is: memory
    becomes poison when the arena gets it. */
 #ifndef ASANCOL_POISONING_H
 #define ASANCOL_POISONING_H

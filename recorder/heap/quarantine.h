@@ -17,7 +17,7 @@ void quarantine_release_oldest(void);
 /* Enough entries for this many bytes of spans. */
 void quarantine_release_down_to(uint64_t bound);
 
-/* From now on all is in order: what is freed, and has its memory, is held. */
+/* From now on all is in order: freed blocks with memory are held. */
 void heap_order(void);
 
 #endif

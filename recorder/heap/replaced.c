@@ -33,7 +33,7 @@ void heap_own_free(void *pointer)
 
 REPLACES void free(void *pointer) __attribute__((alias("heap_own_free")));
 
-/* What is refused, unless that is no mistake. */
+/* A refused request, unless that is legitimate. */
 static __attribute__((noinline, cold)) void note(enum finding_kind kind, const char *call, uintptr_t caller,
                                                  struct wrong_call given)
 {
@@ -106,7 +106,7 @@ static void note_alignment(const char *call, uintptr_t caller, size_t alignment,
     note(FINDING_ALIGNMENT, call, caller, (struct wrong_call){.start = alignment, .size = size});
 }
 
-/* As the C library does, what is no alignment is rounded up to one. */
+/* As in the C library, an invalid alignment is rounded up to a valid one. */
 static void *own_memalign(size_t alignment, size_t size)
 {
     if (UNLIKELY(!is_power_of_two(alignment)))

@@ -21,7 +21,7 @@ static uint32_t whole_pages(size_t bytes)
 }
 
 /* How many bytes of notes a unit has, in whole pages. A run has hardly any. Call sites count even before they are
-   noted: so what is taken off for a unit is what was added for it. */
+   noted: so the amount subtracted for a unit is the one added for it. */
 static uint32_t note_bytes(const struct unit *unit)
 {
     if (unit->kind != UNIT_SLAB)
@@ -77,7 +77,7 @@ static bool is_kept(const struct unit *unit)
     return NOTE_NOW(unit->form) == FORM_BACK;
 }
 
-/* What was taken back meanwhile has another form, which a shard may be changing; or it is there once more, and goes the
+/* A unit taken back meanwhile has another form, which a shard may be changing; or it is there once more, and goes the
    sooner. */
 static void forget_oldest(void)
 {
@@ -104,7 +104,7 @@ static void keep(uint32_t unit)
         forget_oldest();
 }
 
-/* The oldest of these with this many units, or 0. What was a run of a big block has notes on one slot of each unit
+/* The oldest of these with this many units, or 0. A former run of a big block has notes on one slot of each unit
    alone, so no slab fits there. */
 static uint32_t find_kept(uint32_t least, uint32_t most)
 {
@@ -369,7 +369,7 @@ static unsigned dead_pages(const struct unit *unit, uint32_t left)
     return there > needed ? there - needed : 0;
 }
 
-/* Pages in which nothing lives are given back, and if much of a unit is freed it is listed. What is left may become 0
+/* Pages in which nothing lives are given back, and if much of a unit is freed it is listed. The rest may become 0
    meanwhile, and the unit retired without central: that stays so, and not all of its pages count as dead. */
 static void look_at(uint32_t number)
 {

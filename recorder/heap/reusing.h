@@ -5,8 +5,8 @@
 #include <stdbool.h>
 #include <stdint.h>
 
-/* This many retired units in a row, of any length, with notes or without; 0: there are none. What is for a
-   slab has notes on all slots. They are what they were, or a run. Under central. */
+/* This many retired units in a row, of any length, with notes or without; 0: there are none. Units for a slab have
+   notes on all slots. They are unchanged, or a run. Under central. */
 uint32_t reusing_take(uint32_t count, bool is_slab);
 
 #endif

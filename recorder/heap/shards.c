@@ -14,7 +14,7 @@
 
 /* How many units a shard takes at a time, and runs: at first the number that there is, within these bounds. */
 enum { LEAST_SPAN = 4, MOST_SPAN = 32 };
-/* Of each region a mapping stays, and the system has a limit of these (65,530). So from 512 GB on what is retired is
+/* Of each region a mapping stays, and the system has a limit of these (65,530). So from 512 GB on retired memory is
    reused first. */
 #ifndef MANY_UNITS
 enum { MANY_UNITS = 1 << 23 };
@@ -157,7 +157,7 @@ static bool open_again(struct shard *shard, unsigned class)
     return unit != 0;
 }
 
-/* If there is no memory, what is dead is reused too. */
+/* If there is no memory, dead blocks are reused too. */
 static bool open_some(struct shard *shard, unsigned class, uint32_t slot_size)
 {
     if (UNLIKELY(dead_are_too_many()) && open_again(shard, class))
@@ -268,7 +268,7 @@ static uint32_t take_small_run(uint32_t count)
     struct unit_span *runs = &heap.runs;
     if (runs->end - runs->next < count) {
         uint32_t rest = runs->next;
-        runs->next = runs->end; /* first: what is left twice would seem to be a region of freed units alone */
+        runs->next = runs->end; /* first: a unit left twice would seem to be a region of freed units alone */
         atomic_signal_fence(memory_order_seq_cst);
         retiring_leave(rest, runs->end - rest);
         uint32_t step = span_size() > count ? span_size() : count;
@@ -279,7 +279,7 @@ static uint32_t take_small_run(uint32_t count)
     return runs->next - count;
 }
 
-/* What was a slab is a run from now on. A run stays as long as it was. */
+/* A former slab is a run from now on. A run stays as long as it was. */
 static uint32_t take_run_back(uint32_t count, bool longer)
 {
     uint32_t first = retiring_take_back(count, longer);
@@ -288,7 +288,7 @@ static uint32_t take_run_back(uint32_t count, bool longer)
     return first;
 }
 
-/* There is no memory but what was used before. */
+/* Only used memory is left. */
 static uint32_t take_any_run(uint32_t count)
 {
     uint32_t first = take_run_back(count, false);

@@ -6,8 +6,8 @@
                          [                          ]   retired: memory and shadow went back; notes and stacks stay
                                                         forgotten: the notes went back too, the oldest first
 
-   A free marks the block, and counts down what is left of its unit: nobody waits, and nothing is shared but that count.
-   What is freed for good stays bad in the shadow (shadow/unused.h), so each later use is found.
+   A free marks the block, and counts down the rest of its unit: nobody waits, and nothing is shared but that count.
+   Retired memory stays bad in the shadow (shadow/unused.h), so each later use is found.
 
    Pages of freed blocks that can't go back, since live ones lie beside them, are dead. If they are more than the bound
    of the quarantine, free slots of the oldest such units are reused, and the stream says so

@@ -91,7 +91,7 @@ static uint32_t snapshot_unit(struct snapshot *snapshot, uint32_t unit)
     return count;
 }
 
-/* What is a block, live or held, becomes that after it; what was released was redzone for the checker, and is bad as
+/* What is a block, live or held, becomes that after it; released memory was redzone for the checker, and is bad as
    before. */
 static void snapshot_memory(struct snapshot *snapshot)
 {

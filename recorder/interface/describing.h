@@ -1,4 +1,4 @@
-/* What is known of an address and of code, as text: for what a program asks by AddressSanitizer's interface. At any
+/* Descriptions of addresses and of code, as text: for what a program asks by AddressSanitizer's interface. At any
    time, but not at once: the system is asked. */
 #ifndef ASANCOL_DESCRIBING_H
 #define ASANCOL_DESCRIBING_H

@@ -487,7 +487,7 @@ INTERFACE size_t __sanitizer_get_heap_size(void)
     return ask_heap_count().system_bytes;
 }
 
-/* With what is in quarantine. */
+/* With the blocks in quarantine. */
 INTERFACE size_t __sanitizer_get_free_bytes(void)
 {
     struct heap_numbers now = ask_heap_count();

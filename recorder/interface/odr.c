@@ -67,7 +67,7 @@ static uintptr_t first_of(const char *name, const char *version)
     return found;
 }
 
-/* What begins at an address. Not what may be defined often: that is weak. Nor what is the module's alone. */
+/* What begins at an address. Not a name that may be defined often: that is weak. Nor one of the module alone. */
 static bool is_shown(uintptr_t address, struct shown *shown)
 {
 #if __GLIBC_PREREQ(2, 35)
@@ -95,7 +95,7 @@ static bool is_shown(uintptr_t address, struct shown *shown)
 }
 #endif
 
-/* What is looked for: another definition of this one. */
+/* The target of the search: another definition of this one. */
 struct search {
     const struct global *global;
     uintptr_t other; /* where that begins; 0: by its start or its indicator */

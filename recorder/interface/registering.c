@@ -26,7 +26,7 @@ static const Elf64_Phdr *segment(uint32_t i)
     return (const Elf64_Phdr *)((uintptr_t)&__ehdr_start + __ehdr_start.e_phoff) + i;
 }
 
-/* What is to be added to the addresses in the module's headers. */
+/* The offset of the module from the addresses in its headers. */
 static uintptr_t base_of_module(void)
 {
     for (uint32_t i = 0; i < __ehdr_start.e_phnum; i++)

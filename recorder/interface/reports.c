@@ -221,7 +221,7 @@ static void tell(const struct told *told, uintptr_t frame)
             on_error();
         if (tell_text != NULL)
             tell_text(report_text);
-        if (!recorder_halts()) /* what is called at the end may ask, too */
+        if (!recorder_halts()) /* a callback at the end may ask, too */
             atomic_store(&now, NULL);
     }
     lock_give(&telling);

@@ -1,4 +1,4 @@
-/* Blocks that nothing leads to any more, as LeakSanitizer finds them. What is found becomes findings beside the stream
+/* Blocks that nothing leads to any more, as LeakSanitizer finds them. They become findings beside the stream
    (findings.h), one for each stack that has allocated some. */
 #ifndef ASANCOL_LEAKS_H
 #define ASANCOL_LEAKS_H

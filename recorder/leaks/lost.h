@@ -23,7 +23,7 @@ struct lost {
     size_t count, room;
 };
 
-/* Sums up the blocks that have no mark, or that of what is lost indirectly (marking.h). The lock of the allocator is
+/* Sums up the blocks that have no mark, or that of indirectly lost ones (marking.h). The lock of the allocator is
    held. Without memory for it there are none; false then. */
 bool lost_find(struct lost *lost);
 /* Gives its memory back. */

@@ -19,7 +19,7 @@
 #include "stacks/fake_stack.h"
 #include "stacks/own_stack.h"
 
-/* What is known of all threads and modules, in one search. */
+/* The state of all threads and modules, in one search. */
 static struct {
     size_t static_size;             /* of the memory before a thread's control block, which is that of modules */
     size_t control_size;            /* of the control block */

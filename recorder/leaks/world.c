@@ -16,7 +16,7 @@
 #include "base/system.h"
 #include "process/other_threads.h"
 
-/* What is known of a thread that was asked to stop. `context` is released by the thread, once it has stopped. */
+/* The state of a thread that was asked to stop. `context` is released by the thread, once it has stopped. */
 struct slot {
     pid_t thread;
     bool is_gone;
@@ -29,7 +29,7 @@ enum { MAX_SLOTS = 1 << 16 };
    library does for a moment. */
 enum { PATIENCE_MS = 3000, DEAF_PATIENCE_MS = 30 };
 
-/* Of this the allocator's lock guards all but what is atomic. */
+/* The allocator's lock guards all fields except the atomic ones. */
 static struct {
     /* Grows when threads are to stop, and when they go on: it is odd in between. */
     _Atomic uint32_t round;

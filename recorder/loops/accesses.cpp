@@ -20,7 +20,7 @@ const unsigned MOST_RANGES = 6;
 const uint64_t NEAR = 512;
 /* For each access of a round a test may read the shadow of this many bytes. */
 const uint64_t BYTES_OF_ACCESS = 64;
-/* What is copied in a round, at most, so that a round takes no time that counts. */
+/* The most that is copied in a round, so that a round takes no time that counts. */
 const uint64_t MOST_COPIED = 256;
 /* A larger loop takes more time than its checks. */
 const unsigned MOST_INSTRUCTIONS = 1000;

@@ -64,7 +64,7 @@ bool has_group(const Instruction &instruction, const MDNode *group)
     return is_contained(of->operands(), group);
 }
 
-/* Makes the copies, of a nest from outside: what is left of it is looked at loop by loop. */
+/* Makes the copies, of a nest from outside: the rest of it is examined loop by loop. */
 class version_loops : public PassInfoMixin<version_loops>
 {
   public:
@@ -154,7 +154,7 @@ void add_passes(PassBuilder &builder)
         passes.addPass(version_loops(mark::GROUP));
         *is_vectorized = true;
     });
-    /* What is vectorized only at the link, as with -flto=thin, has its checks by then. */
+    /* Code vectorized only at the link, as with -flto=thin, has its checks by then. */
     builder.registerOptimizerLastEPCallback([is_vectorized](ModulePassManager &passes, auto level, auto...) {
         if (*is_vectorized)
             passes.addPass(turn_marks());

@@ -356,7 +356,7 @@ void versioning::join_variable(PHINode &variable)
     copy_of_rest->setIncomingValueForBlock(rest, next);
 }
 
-/* What is used after the loop comes from any of them. */
+/* A value used after the loop comes from any of them. */
 void versioning::join_exit()
 {
     BasicBlock *latch = it.loop->getLoopLatch();

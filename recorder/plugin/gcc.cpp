@@ -1,6 +1,6 @@
 /* A plugin of GCC's. After the pass that puts in AddressSanitizer's checks comes one that adds what it leaves out:
 
-   - of parts of complex numbers, and of what is read as another type;
+   - of parts of complex numbers, and of objects read as another type;
    - of intrinsics that are functions of the compiler's (intrinsics.cpp), and of some others of its functions;
    - of functions of the C library that later passes replace by loads and stores, as a memcmp of few bytes: these stay
      calls, which have checks.
@@ -65,7 +65,7 @@ void check_before(gimple_stmt_iterator *at, const range &it)
 
 namespace {
 
-/* What is said of the object, once each. */
+/* The notes on the object, once each. */
 struct said {
     hash_set<tree> functions; /* without checks, that were counted */
     struct file {
@@ -225,7 +225,7 @@ public:
     checks(bool is_of_all) : gimple_opt_pass(data, g), is_of_all(is_of_all) {}
 
     opt_pass *clone() override { return new checks(is_of_all); }
-    /* GCC's pass is there twice, and the second is for what is not optimised. */
+    /* GCC's pass exists twice; the second is for unoptimised code. */
     bool gate(function *) override { return (flag_sanitize & SANITIZE_ADDRESS) != 0 && (is_of_all || !optimize); }
 
     unsigned execute(function *function) override

@@ -155,8 +155,8 @@ void call::check_lanes(unsigned HOST_WIDE_INT count)
         check(start, total);
 }
 
-/* What is gathered: the source, the base, indices, the mask, and the scale. What is scattered: the base, the mask,
-   indices, the source, and the scale. */
+/* Arguments of a gather: the source, the base, indices, the mask, and the scale. Arguments of a scatter: the base, the
+   mask, indices, the source, and the scale. */
 void call::check_indexed()
 {
     tree data = TREE_TYPE(argument(of.way == LOAD ? 0 : 3)), mask = argument(of.way == LOAD ? 3 : 1);

@@ -58,7 +58,7 @@ static bool read_hub(pid_t process, struct entry *entry)
     return is_there;
 }
 
-/* What is known of a process. */
+/* Data of a process. */
 struct known {
     pid_t parent; /* 0: none is known */
     bool is_run;

@@ -1,4 +1,4 @@
-/* Whether what is preloaded records this process, or steps aside: if the program has a recorder, as all that
+/* Whether the preloaded recorder records this process, or steps aside: if the program has a recorder, as all that
    asancol-cc has linked, or if there is no room for the shadow. */
 #ifndef ASANCOL_ASIDE_H
 #define ASANCOL_ASIDE_H
@@ -34,7 +34,7 @@ struct object;
 void aside_find_behind(const struct object *of);
 /* Where a call of a name leads, if the recorder has that; or 0. */
 uintptr_t aside_function_behind(const char *name);
-/* Whether a pointer to a function is one to what is hidden. */
+/* Whether a pointer leads to a hidden function. */
 #ifdef IS_PRELOAD
 bool aside_is_behind(const void *pointer);
 #else

@@ -1,4 +1,4 @@
-/* The first call into an object: of a program by first.c, of a shared object when it is loaded. What is preloaded comes
+/* The first call into an object: of a program by first.c, of a shared object when it is loaded. A preloaded one comes
    before all others (-z initfirst). */
 #include "process/early.h"
 

@@ -1,5 +1,5 @@
-/* What is preloaded has names of the C library: these, which lead where aside.c says. A call comes here with whatever
-   its caller has given it, and its caller stays the caller. */
+/* The preloaded recorder has names of the C library: these, which lead where aside.c says. A call comes here with
+   whatever its caller has given it, and its caller stays the caller. */
 #include "process/aside.h"
 
 /* The recorder's function of the name is called `asancol_instead_NAME` (Makefile). At its first call a way leads to

@@ -3,7 +3,7 @@
    With 1 the recording ends there, with a close if it has everything. With 2 it begins there: with what stands, and
    this one event. So only a process that fails leaves a trace, and asancol judges it without a second run.
 
-   What is preloaded and waits begins there too, and the process goes on. */
+   A waiting preloaded recorder begins there too, and the process goes on. */
 #include "process/halt.h"
 
 #include "base/self.h"
@@ -37,7 +37,7 @@ static void record(enum code code, unsigned width, uint64_t address, uintptr_t c
         record_piece_of(code, width, address, caller, whole);
 }
 
-/* The process says itself what is wrong: it may be the only one that does. */
+/* The process prints the report itself: nobody else may do so. */
 static void say_what(enum code code, unsigned width, uint64_t address, uintptr_t caller, const struct access *whole)
 {
     struct access alone = access_of(code, address, width, caller, NULL);

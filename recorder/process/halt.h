@@ -11,7 +11,7 @@
 /* Ends the recording and the process, unless another thread is doing so: then it returns. `whole` is null if the access
    is no piece. */
 void halt_at(enum code code, unsigned width, uint64_t address, uintptr_t caller, struct access *whole);
-/* What is called before that. */
+/* The function that is called before that. */
 void halt_on_death(void (*callback)(void));
 /* Whether nobody has asked this before: who asks first reports the crash. */
 bool halt_is_first_crash(void);

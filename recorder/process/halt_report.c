@@ -158,7 +158,7 @@ static void put_stack(call_site of, const char *function)
     put("\n");
 }
 
-/* What is wrong. */
+/* The mistake. */
 
 static bool is_in_block(uint64_t address, const struct nearest *block)
 {

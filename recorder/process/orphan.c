@@ -22,7 +22,7 @@
 /* As long as the name of a socket is. */
 enum { NAME_ROOM = 109, PIECE = 4096 };
 
-/* What is done with the name of a run that has our mark. False: that is another one, whose mark is the same. */
+/* The action for the name of a run that has our mark. False: that is another one, whose mark is the same. */
 typedef bool take_run(const char *hub, const char *why);
 
 /* The names of abstract sockets in a text that comes in pieces: each follows " @", up to the end of its line. */

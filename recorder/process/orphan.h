@@ -10,7 +10,7 @@ void orphan_ask(void);
 /* What the run has said of a setting, or null. */
 const char *orphan_value(const char *name);
 
-/* Leaves word with the run, if there is one. Null: with what is in the way of recording this process. */
+/* Leaves word with the run, if there is one. Null: with the obstacle to recording this process. */
 void orphan_say(const char *why) OWN_NAME(orphan_say);
 
 #endif

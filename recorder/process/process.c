@@ -41,7 +41,7 @@ static struct {
 } process;
 static AS_TABLE char trace_name[PATH_MAX]; /* that the pattern gives this process */
 
-/* What is preloaded waits for the first module of asancol-cc, or the first bad access or free (halt.c). Whoever ends
+/* A preloaded recorder waits for the first module of asancol-cc, or the first bad access or free (halt.c). Whoever ends
    that sets it to false. Until then blocks have redzones and call sites, and nothing else of the recorder is there. */
 static _Atomic bool is_waiting;
 
@@ -339,7 +339,7 @@ void recorder_exec_failed(void)
 
 /* Forks. The lock of the heap and that of the stream are held across. */
 
-/* Whether what is forked now is to be recorded. */
+/* Whether a child forked now is to be recorded. */
 static bool forks_recorded(void)
 {
     enum state state = stream_state();

@@ -22,7 +22,7 @@ struct settings {
     uint64_t stop; /* the event at which the process stops; 0: none */
     uint64_t quarantine;
     int patience_ms;
-    bool use_after_return; /* is looked for by what was compiled for that */
+    bool use_after_return; /* is detected by code compiled for that */
     bool with_side; /* what stands beside a trace is wanted too, */
     bool with_leaks; /* and with it what leaks */
     bool is_full; /* each malloc and free is recorded */
@@ -40,7 +40,7 @@ struct settings {
 /* The hub that the environment names, or null. */
 const char *settings_hub(void);
 
-/* Reads all settings, and says what is none or has a value that is none. In the environment the names of the trace
+/* Reads all settings, and names unknown ones and invalid values. In the environment the names of the trace
    and of the log are from the root afterwards, so that a process that this one starts elsewhere finds them. */
 void settings_read(struct settings *settings);
 

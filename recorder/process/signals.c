@@ -43,7 +43,7 @@ _Noreturn void signals_abort(void)
     system_exit(127);
 }
 
-/* Signals that end the process. What was recorded so far is in the stream: a handler ends it in order, and then lets
+/* Signals that end the process. Everything recorded so far is in the stream: a handler ends it in order, and then lets
    the signal do what it does. The program sees the default in place of this handler. */
 
 static bool has_handlers;
@@ -145,7 +145,7 @@ static bool is_inside(int number, const siginfo_t *info, const struct met *met)
            && own_code_has(met->registers.instruction, met->registers.frame);
 }
 
-/* No lock is taken, since this thread may have it. What is noted of the stack may meet the same fault again: all else
+/* No lock is taken, since this thread may have it. Noting the stack may cause the same fault again: all else
    is noted by then. */
 static void note_inside(int number, const struct met *met)
 {
@@ -314,7 +314,7 @@ extern int real_sigaction(int, const struct sigaction *, struct sigaction *) __a
 REAL(int, sigaction, (int, const struct sigaction *, struct sigaction *));
 #endif
 
-/* What is set in place of the program's action. */
+/* The action set in place of the program's. */
 static void take_place(int number, struct sigaction *action)
 {
     bool is_handled = is_function((uintptr_t)action->sa_handler);

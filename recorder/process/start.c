@@ -27,9 +27,9 @@
 #include "stream/ending.h"
 #include "stream/state.h"
 
-/* The end. What is registered first is called last: before any constructor of a library runs, and before the C library
-   registers the one that calls all destructors. A static program registers that before, so there the last of its own
-   destructors is later. What comes first of the two is no end for certain. */
+/* The end. The first registered handler is called last: before any constructor of a library runs, and before the C
+   library registers the one that calls all destructors. A static program registers that before, so there the last of
+   its own destructors is later. What comes first of the two is no end for certain. */
 
 static struct {
     bool is_registered, handlers_are_over, destructors_are_over;

@@ -329,7 +329,7 @@ struct span stack_fiber_comes(void)
 
 #ifndef IS_STATIC
 
-/* What is passed on to a new thread waits in one of these until the thread has begun: a malloc here would be one that
+/* The data for a new thread wait in one of these until the thread has begun: a malloc here would be one that
    the program did not make. */
 struct start {
     _Atomic bool is_taken;
@@ -444,7 +444,7 @@ static uintptr_t find_real(_Atomic uintptr_t *real, const char *name)
     return found;
 }
 
-/* What is passed on to a thread that this caller creates; or null. */
+/* The data for a thread that this caller creates; or null. */
 static struct start *prepare(const pthread_attr_t *attributes, void *argument, uintptr_t caller)
 {
     bool is_idle = atomic_load_explicit(&stream_page.stream.is_idle, memory_order_relaxed);

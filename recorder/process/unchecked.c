@@ -290,7 +290,7 @@ void unchecked_list(char *lines, const char *maps)
             first = line;
             is_added = false;
         }
-        /* What is mapped and never run is data. */
+        /* A module that is mapped and never run is data. */
         if (line.is_code && !is_added && (line.is_first || maps_is_same_file(&line, &first))) {
             add_module(&list, &first);
             look_for_second(&list, &first, &libraries);

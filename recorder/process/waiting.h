@@ -1,4 +1,4 @@
-/* What is preloaded waits for the first shared object of asancol-cc, or the first bad access or free. */
+/* A preloaded recorder waits for the first shared object of asancol-cc, or the first bad access or free. */
 #ifndef ASANCOL_WAITING_H
 #define ASANCOL_WAITING_H
 

@@ -140,7 +140,7 @@ static const char *map_hook_page(void)
 extern const Elf64_Ehdr __ehdr_start __attribute__((visibility("hidden"), weak));
 
 struct code_range own_code;
-/* What is to be added to the addresses in its headers. */
+/* Its offset from the addresses in its headers. */
 static uintptr_t own_base;
 
 static const Elf64_Phdr *segments_of(const Elf64_Ehdr *header)

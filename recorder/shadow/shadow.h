@@ -2,9 +2,9 @@
    before each access, and their code writes the redzones of frames into it. The allocator writes the state of blocks,
    variables.c that of globals and of scopes that end, and the process its own poison.
 
-   **The shadow decides only what is recorded; the verdict is the collector's.** An access that the check lets through
-   leaves no record. So the shadow must never be laxer than what the collector makes of the stream: what is
-   addressable here has to be addressable there, at the place that a record of the access would have. Being stricter
+   **The shadow decides only about recording; the verdict is the collector's.** An access that the check lets through
+   leaves no record. So the shadow must never be laxer than what the collector makes of the stream: a byte addressable
+   here must be addressable there, at the place that a record of the access would have. Being stricter
    costs a record, and no verdict.
 
    Of memory outside the allocator's the stream says nothing until an access comes that the check flags. A

@@ -27,7 +27,7 @@ static uintptr_t table_of(uintptr_t instruction)
     return 0;
 }
 
-/* Reading. Of what is read nothing is believed, and none of it need be there. */
+/* Reading. All input is untrusted, and may be unmapped. */
 
 struct reader {
     uintptr_t at, end;

@@ -26,7 +26,7 @@ enum { KEPT_BYTES = 1 << 14 };
 
 /* At the start of a slot. Its thread alone uses this, and handlers of signals in that thread. */
 struct fake_stack {
-    _Atomic uintptr_t swept_to; /* if a frame is taken above here, what was left below it is given back first, */
+    _Atomic uintptr_t swept_to; /* if a frame is taken above here, frames abandoned below it are given back first, */
     _Atomic uintptr_t low, top; /* on this stack */
     _Atomic uint32_t sweeps;    /* how often that was done since frames were left */
     _Atomic uint32_t next[FAKE_CLASSES]; /* where to look for a frame */
@@ -203,9 +203,9 @@ static void give_left(struct fake_stack *stack, const struct left *left)
     }
 }
 
-/* Goes over all flags, which are 32 KiB at most: about as long as a throw takes. What was left may reach further up
-   than the first frame that is taken after it, so there is another sweep for one that lies higher; the fifth and later
-   ones only if it lies far higher, so that they are few. */
+/* Goes over all flags, which are 32 KiB at most: about as long as a throw takes. The abandoned frames may reach further
+   up than the first frame that is taken after it, so there is another sweep for one that lies higher; the fifth and
+   later ones only if it lies far higher, so that they are few. */
 static __attribute__((noinline)) void sweep(struct fake_stack *stack, uintptr_t real)
 {
     enum { EXACT = 4, LEAST_STEP = 8, MOST_STEP = 30 };
@@ -329,7 +329,7 @@ static bool has_frames_from(struct fake_stack *stack, unsigned class, uint32_t f
     return false;
 }
 
-/* Frames of contexts that go on elsewhere stay. The shadow stays too: an access to what is given back is found. */
+/* Frames of contexts that go on elsewhere stay. The shadow stays too: an access to a returned frame is found. */
 static void give_memory(struct fake_stack *stack, unsigned class)
 {
     uint32_t used = atomic_load_explicit(&stack->used[class], memory_order_relaxed);
@@ -365,7 +365,7 @@ static bool is_in_slots(uint64_t address)
     return address >= SLOTS_START && (address - SLOTS_START) >> SLOT_SHIFT < atomic_load(&slots_made);
 }
 
-/* The part of its slot, which is the class and 1; 0 and what is greater than that have no frames. */
+/* The part of its slot, which is the class and 1; 0 and greater numbers have no frames. */
 static unsigned part_of(uint64_t address)
 {
     return (unsigned)(address >> PART_SHIFT) % (1u << (SLOT_SHIFT - PART_SHIFT));

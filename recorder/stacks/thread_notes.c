@@ -6,7 +6,7 @@
 
 _Thread_local struct own_notes own_notes = {.number = THREAD_UNKNOWN};
 
-/* By their numbers. What is not used takes no memory. */
+/* By their numbers. Unused ones take no memory. */
 static AS_TABLE struct {
     _Atomic uint64_t created, name[NAME_WORDS];
     _Atomic uint32_t system_number;

@@ -1,4 +1,4 @@
-/* Threads, by their numbers in the order in which they were created. What is noted of one stays when it has ended, and
+/* Threads, by their numbers in the order in which they were created. The notes on one stay when it has ended, and
    its number is not used again. At any time, and in a signal handler too. */
 #ifndef ASANCOL_THREAD_NOTES_H
 #define ASANCOL_THREAD_NOTES_H

@@ -108,7 +108,7 @@ static inline struct cfi_rule rule_of(uintptr_t instruction, bool is_after_call,
     return find_rule(instruction, is_after_call, key);
 }
 
-/* A part of the stack that can be read, or none, and of other memory the page that was asked for last; what is kept of
+/* A part of the stack that can be read, or none, and of other memory the page that was asked for last; the kept part of
    the walk; and how many frames were passed over. */
 struct reach {
     uintptr_t low, size;
@@ -345,8 +345,8 @@ static inline bool find_call(uintptr_t start, uintptr_t caller, struct reach *re
 }
 
 /* Begins a walk of this frame of the recorder's, on the thread's own stack. False: it is on another one, or this is a
-   signal handler, which has interrupted a walk; what is known is left alone. If a walk began further in than this one,
-   it was left by a jump, with what is known in any state. */
+   signal handler, which has interrupted a walk; the known walks are left alone. If a walk began further in than this
+   one, it was left by a jump, with the known walks in any state. */
 static bool begin(uintptr_t own, bool is_on_own_stack, uint64_t now, struct walks **walks)
 {
     uintptr_t walker = atomic_load_explicit(&own_walks.walker, memory_order_relaxed);

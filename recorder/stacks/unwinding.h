@@ -40,7 +40,7 @@ struct registers {
 /* The same, from any instruction on, whose address comes first, with 1 added, as if it were a call. */
 void unwind_from_registers(const struct registers *registers, struct stack *found);
 
-/* What is known of the code of modules may be true no more. */
+/* The notes on the code of modules may be outdated. */
 void unwinding_modules_changed(void);
 
 #endif

@@ -6,7 +6,7 @@
 _Thread_local struct own_walks own_walks;
 _Atomic uint64_t rules_generation = UINT64_C(1) << GENERATION_SHIFT;
 
-/* More threads at a time know none. What is not used takes no memory. */
+/* More threads at a time know none. Unused entries take no memory. */
 enum { PLACES = 256, AFTER_WALKS = 64 };
 static AS_TABLE _Alignas(PAGE) struct walks places[PLACES];
 static _Atomic bool is_taken[PLACES];

@@ -60,12 +60,12 @@ struct walks {
 
 /* Relaxed: no other thread looks at these, and a signal handler sees all that was stored before it came. */
 extern _Thread_local struct own_walks {
-    _Atomic uintptr_t walker;    /* the frame of who walks now by what is known, or 0 */
+    _Atomic uintptr_t walker;    /* the frame of the current user of the known walks, or 0 */
     struct walks *_Atomic walks; /* or null */
     _Atomic uint32_t count;      /* before it had any */
 } own_walks;
 
-/* Of what is known of the code of modules; it counts in the upper bits. */
+/* The generation of the notes on modules' code; it counts in the upper bits. */
 enum { GENERATION_SHIFT = 48 };
 extern _Atomic uint64_t rules_generation;
 

@@ -11,7 +11,7 @@
 #include "stream/side.h"
 #include "stream/state.h"
 
-/* What was incomplete must not read as clean: a process without a check, of which nothing was seen but its
+/* An incomplete process must not read as clean: a process without a check, of which nothing was seen but its
    blocks, or one of which events are missing. */
 static enum finish as_seen(enum finish finish)
 {
@@ -53,7 +53,7 @@ static enum finish finish_of_records(uint64_t end, uint64_t limit, enum finish f
     return locked.goes_on && !is_file() ? FINISH_OPEN : finish;
 }
 
-/* Sends the last bytes. False: they are lost. A hub knows what is missing if the process has closed the descriptor. */
+/* Sends the last bytes. False: they are lost. A hub knows the missing part if the process has closed the descriptor. */
 static bool send_end(uint64_t end)
 {
     const char *why =

@@ -11,7 +11,7 @@
 /* The bits of a hash that tell no two entries apart: a number has room there. */
 #define FAULT_NUMBER (((uint64_t)1 << 17) - 1)
 
-/* A list begins: what is known is of another one. */
+/* A list begins: the known entries are of another one. */
 void fault_list_forget(void);
 /* Adds a text to a hash, with zeros after it, up to the end of its room. */
 uint64_t fault_list_mix(uint64_t hash, const char *text, size_t room);

@@ -51,7 +51,7 @@ static void keep_shadow(uint64_t bad, struct side_fault *fault)
         fault->shadow_start = 0;
 }
 
-/* The first byte that is bad decides what is near. */
+/* The first bad byte decides the nearest block or variable. */
 static uint64_t first_bad(unsigned width, uint64_t address)
 {
     uint64_t bad = width == 0 ? address : shadow_first_bad(address, width);

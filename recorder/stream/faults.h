@@ -1,6 +1,6 @@
-/* Faults: what is seen when an access or a free is bad by the shadow. Each is one entry beside the stream, with the
-   block or the variable that is nearest. An index there has for each event the number of its fault. So a loop over bad
-   bytes is one fault, and what is good costs nothing. */
+/* Faults: the circumstances of an access or a free that is bad by the shadow. Each is one entry beside the stream, with
+   the block or the variable that is nearest. An index there has for each event the number of its fault. So a loop over
+   bad bytes is one fault, and good ones cost nothing. */
 #ifndef ASANCOL_FAULTS_H
 #define ASANCOL_FAULTS_H
 

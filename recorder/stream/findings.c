@@ -55,7 +55,7 @@ static uint64_t hash_of(const struct list *list, const struct side_fault *entry)
     return fault_list_mix(fault_list_mix(hash, entry->call, SIDE_CALL), entry->name, SIDE_NAME);
 }
 
-/* A leak takes the place of what was known of it; others come up once more. Answers whether it is the first. */
+/* A leak replaces its earlier finding; others come up once more. Answers whether it is the first. */
 static bool count(struct side_fault *entry, const struct finding *finding)
 {
     _Atomic uint64_t *times = (_Atomic uint64_t *)&entry->found.count;

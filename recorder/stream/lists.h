@@ -49,7 +49,7 @@ uint32_t list_put_text(struct list *list, const char *text);
 /* Puts the stack of a call site there, if it is not there yet. Answers its number; 0: it has none, or no room. */
 uint32_t list_put_stack(struct list *list, call_site of);
 
-/* For hashes of what is in a list. */
+/* For hashes of the entries of a list. */
 static inline uint64_t list_mix(uint64_t hash, uint64_t word)
 {
     hash = (hash ^ word) * UINT64_C(0x9e3779b97f4a7c15);

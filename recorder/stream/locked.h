@@ -17,7 +17,7 @@ extern struct locked {
     uint64_t generation;     /* of modules, as the loader has counted them just before an exit; or 0 */
     bool takes_snapshot;     /* what a segment begins with, just now, */
     bool is_overfull;        /* for which there was no room */
-    bool goes_on;            /* after what is written at an exit */
+    bool goes_on;            /* after the data written at an exit */
     bool said_unseen;        /* that it gets no close, since nothing was seen */
     struct output trace;
     struct output side; /* a file, or memory */

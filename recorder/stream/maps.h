@@ -32,7 +32,7 @@ struct note {
 enum { MAP_HEAD = 2048 };
 struct map_head {
     uint64_t start; /* where the file begins */
-    bool is_read;   /* else what is looked for is read by itself */
+    bool is_read;   /* else the wanted part is read by itself */
     _Alignas(8) unsigned char bytes[MAP_HEAD];
 };
 

@@ -22,8 +22,8 @@ enum { MAPS_ROOM = SIDE_UNCHECKED - SIDE_MAPS };
 
 static AS_TABLE struct {
     uint64_t generation;      /* of modules, as the loader counted them; 0: nobody has asked it */
-    uint64_t unchecked_state; /* what the list of what was not checked was made of, beside the map */
-    size_t open, length;      /* of the map up to what was closed, and of all of it; 0: there is no note */
+    uint64_t unchecked_state; /* the other source of the list of unchecked code, beside the map */
+    size_t open, length;      /* of the map up to the closed modules, and of all of it; 0: there is no note */
     size_t builds_count;
     struct side_build builds[SIDE_BUILD_COUNT];
     char unchecked[SIDE_UNCHECKED_ROOM];
@@ -234,7 +234,7 @@ static size_t keep_closed(char *map, size_t length, size_t room)
 
 /* The build ids. */
 
-/* What was known of a module that is closed. */
+/* The notes on a closed module. */
 static bool find_before(struct side_build *build, const struct side_build *before, size_t count)
 {
     for (size_t i = 0; i < count; i++) {
@@ -270,7 +270,7 @@ static bool note(void)
     static AS_TABLE char now[MAPS_ROOM];
     size_t length = read_map(now, sizeof now - 1);
     uint64_t state = above.unchecked_state();
-    if (length == 0) /* as after a change of root: what is there stays */
+    if (length == 0) /* as after a change of root: the old note stays */
         return false;
     if (noted.length != 0 && state == noted.unchecked_state && has_noted_code(now, length))
         return false;
@@ -285,7 +285,7 @@ static bool note(void)
     return true;
 }
 
-/* What is new has zeros, which are not even looked at: that would take memory for them. */
+/* New memory has zeros, which are not even looked at: that would take memory for them. */
 static void copy(struct side *side, bool is_new)
 {
     char *bytes = (char *)side, *unchecked = bytes + SIDE_UNCHECKED;

@@ -1,4 +1,4 @@
-/* The note of modules: what is mapped of files, the build ids of those, and what of them was not checked. It is kept,
+/* The note of modules: the mapped files, their build ids, and what of them was not checked. It is kept,
    and copied to what stands beside the stream: a forked child has its parent's, which was made anew before the fork if
    the loader had loaded or unloaded something by then. The lock of the stream is held in all of these. */
 #ifndef ASANCOL_MODULES_H

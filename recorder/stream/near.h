@@ -1,4 +1,4 @@
-/* What lies nearest to a bad byte: a block, or a variable. Its fault gets what is known of it. */
+/* What lies nearest to a bad byte: a block, or a variable. It is described in the fault. */
 #ifndef ASANCOL_NEAR_H
 #define ASANCOL_NEAR_H
 

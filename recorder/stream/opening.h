@@ -19,7 +19,7 @@ void stream_forget(void);
 bool opening_side(struct output *side, const struct output *trace, unsigned number);
 /* The header goes to a hub at once, and the side memory with it. Answers null, or what went wrong. */
 const char *opening_hub(const struct settings *settings);
-/* Forgets what was opened. */
+/* Forgets the opened output. */
 void opening_take_back(void);
 /* A stream begins in the output that is open. */
 void opening_segment(void);

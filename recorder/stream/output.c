@@ -110,8 +110,8 @@ static const char *take_pieces(struct output *output, int descriptor, struct win
     return NULL;
 }
 
-/* A new file of this name, or of the next one that is free; or what is there, if it is no file: a pipe is not waited
-   for. */
+/* A new file of this name, or of the next one that is free; or the existing one, if it is not a file: a pipe is not
+   waited for. */
 static int open_new(struct output *output, const char *path, enum naming naming)
 {
     if (naming == NAME_TAKEN_OVER)
@@ -385,7 +385,7 @@ bool output_is_closed(const struct output *output)
 
 const char *output_send(struct output *output, uint64_t length, bool all, int patience_ms)
 {
-    enum { PIECE = 1 << 14 }; /* the system gives room back for what was read whole */
+    enum { PIECE = 1 << 14 }; /* the system gives room back for buffers that were read entirely */
     int waited_ms = 0;
     uint64_t from = output->sent;
     const char *why = NULL;

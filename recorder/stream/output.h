@@ -12,7 +12,7 @@ struct output {
     bool is_plain; /* its bytes are memory of this process alone */
     bool is_socket;
     int descriptor; /* of a mapped file none is held: the process may close all that it finds */
-    dev_t device;   /* what was opened, to know it again */
+    dev_t device;   /* its identity, to recognise it */
     ino_t node;
     uint64_t backed; /* a mapped file has this many bytes */
     uint64_t sent;   /* a descriptor was given this many */
@@ -58,10 +58,10 @@ const char *output_back(struct output *output, uint64_t offset, uint64_t length)
 void output_leave(struct output *output);
 /* Cuts a mapped file to this length. */
 void output_trim(struct output *output, uint64_t length);
-/* Whether the process has closed the descriptor, or has another file there. What is sent then answers this text. */
+/* Whether the process has closed the descriptor, or has another file there. Sending then returns this text. */
 bool output_is_closed(const struct output *output);
 extern const char output_closed[];
-/* Sends what is not sent yet of the first bytes: at once what a socket takes, or all of it, with patience. */
+/* Sends the unsent ones of the first bytes: at once what a socket takes, or all of it, with patience. */
 const char *output_send(struct output *output, uint64_t length, bool all, int patience_ms);
 /* Whether the address lies in a mapped file. Then the file is gone, and plain memory takes its place. */
 bool output_lose(struct output *output, const void *address);

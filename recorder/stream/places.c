@@ -44,7 +44,7 @@ static bool comes_on(enum state *state)
     }
 }
 
-/* Another thread tries an exec just now. What is noted before the exec has failed is missing at the end. */
+/* Another thread tries an exec just now. Events noted before the exec has failed are missing at the end. */
 static bool is_missed(void)
 {
     atomic_store(&shared.has_missed, true);

@@ -10,7 +10,7 @@
 
 /* Whether a stream that is off is on by now: nothing had started it, or another thread was switching. */
 bool stream_wake(void) OWN_NAME(stream_wake);
-/* What is not recorded, since the stream is off: if it has its close, and this is bad, something says so. */
+/* An event that is not recorded, since the stream is off: if it has its close, and this is bad, something says so. */
 void record_too_late(bool is_bad) OWN_NAME(record_too_late);
 /* An access that has taken its place by this cursor. */
 void record_access_slowly(uint64_t cursor, unsigned code_and_width, uint64_t address) OWN_NAME(record_access_slowly);

@@ -1,4 +1,4 @@
-/* What is recorded: accesses, in code that is inlined where they are, and regions. writing.h says how. */
+/* The recording of accesses, in code that is inlined where they are, and regions. writing.h says how. */
 #ifndef ASANCOL_RECORD_H
 #define ASANCOL_RECORD_H
 

@@ -33,7 +33,7 @@ void sending_begin(void)
     atomic_store(&shared.sent_at_once, 0);
 }
 
-/* The next record is unusual, and begins a segment, with a connection of its own. What was not sent stays here. */
+/* The next record is unusual, and begins a segment, with a connection of its own. The unsent part stays here. */
 static const char *stay_for_next(const char *why)
 {
     if (why != output_closed)

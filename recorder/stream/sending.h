@@ -6,7 +6,8 @@
 
 /* A stream begins, of which nothing was sent but its header. */
 void sending_begin(void);
-/* Gives it what is whole, as far as it takes it, or all. Answers null, or what went wrong. The lock is held. */
+/* Gives it the whole pieces, as far as it takes them, or everything. Answers null, or what went wrong. The lock is
+   held. */
 const char *sending_push(bool all);
 /* Whether the process has closed the descriptor, so that it is better to go on in another segment now; for a
    free, with the allocator in order, or for an access. */

@@ -79,8 +79,8 @@ static size_t copy_words(char *to, size_t room)
     return length;
 }
 
-/* The arguments of the command line. Each has its zero, also one that was cut, and there is one more. What was read is
-   kept, also in a child, and read again only if it does not stand any more where the system has put it: a process may
+/* The arguments of the command line. Each has its zero, also one that was cut, and there is one more. The text is kept,
+   also in a child, and read again only if it does not stand any more where the system has put it: a process may
    write a title of its own there. */
 static void read_argv(struct side *side)
 {

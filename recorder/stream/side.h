@@ -34,7 +34,7 @@ void side_note_child(int child);
 bool side_note_becoming(bool becomes);
 /* Whether leaks were to be looked for, the last time, and could not be. */
 void side_note_leaks_missed(bool were_missed);
-/* What is not looked at (enum side_skipped), in this segment and in all that follow. At any time. */
+/* The checks that are turned off (enum side_skipped), in this segment and in all that follow. At any time. */
 void side_note_skipped(uint64_t what) OWN_NAME(side_note_skipped);
 /* That there was no room for what may have been one. */
 void side_note_finding_lost(void);
@@ -44,7 +44,7 @@ _Atomic uint64_t *side_begin_calls(bool for_start);
 void side_end_calls(_Atomic uint64_t *calls);
 /* Up to where it has something. */
 uint64_t side_length(void);
-/* Notes the modules, with the build id of each and what was not checked, if there are others than were noted. */
+/* Notes the modules, with the build id of each and the unchecked code, if there are others than were noted. */
 void side_write_modules(void);
 /* The same, unless the loader has counted the same generation of them when they were noted. */
 void side_look_at_generation(uint64_t generation);
@@ -79,8 +79,8 @@ void side_note_needed(uint64_t event);
 void side_note_left_out(void);
 /* The process has closed the descriptor of the stream. */
 void side_note_closed_off(void);
-/* How the process ends, with this many events in the stream: ENDING_NONE takes an exec back. What is lost stays
-   lost. */
+/* How the process ends, with this many events in the stream: ENDING_NONE takes an exec back. Lost events stay lost.
+   */
 void side_note_ending(enum ending ending, int number, uint64_t events);
 /* Where a signal has met it: the call site, with its stack and its thread as of a fault; the address that could not be
    accessed, and enum side_how. */

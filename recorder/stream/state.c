@@ -21,7 +21,7 @@
               switches. Events of other threads are missed (has_missed), and then there is no close later.
    AT_LIMIT   The stream is complete, with one event more than the limit. Further events are counted (left_out).
    OFF        Nothing is recorded: not wanted, ended, or lost. The stream ends after its last whole record.
-   CLOSED     A socket's close was sent. What is bad from here on is said (is_late).
+   CLOSED     A socket's close was sent. Later bad accesses are reported by a line (is_late).
 
    What follows from a change is here too: a stream that has ended while the process goes on holds no freed blocks for
    the checker any more.

@@ -157,7 +157,7 @@ extern const struct above above OWN_NAME(above); /* start.c */
 /* Whether the process ends at the first access or free that the shadow flags. */
 extern _Atomic bool halt_is_on OWN_NAME(halt_is_on);
 
-/* Lean recording: good mallocs and frees are left out, and what is poisoned in blocks. What a bad access or free has to
+/* Lean recording: good mallocs and frees are left out, and poison in blocks. What a bad access or free has to
    find is stated when that comes. It changes with the heap locked. */
 extern _Atomic bool lean_is_on OWN_NAME(lean_is_on);
 

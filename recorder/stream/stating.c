@@ -95,7 +95,7 @@ void stated_bring_up(uint64_t address, unsigned width)
         bring_up(next);
 }
 
-/* What is bad of an access's granule, and if it is the end of it, the next one, which says the class. */
+/* The bad bytes of an access's granule, and if it is the end of it, the next one, which says the class. */
 void stated_show_frame(uint64_t address)
 {
     uint64_t granule = address / GRANULE * GRANULE;

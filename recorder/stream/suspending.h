@@ -5,7 +5,7 @@
 
 #include <stdbool.h>
 
-/* Ends the stream with a close, keeping what is needed to go on. False: it was not on. */
+/* Ends the stream with a close, keeping everything that is needed to continue. False: it was not on. */
 bool stream_suspend(void);
 /* The exec has failed. False: the stream was not suspended. */
 bool stream_resume(void);

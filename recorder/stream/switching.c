@@ -99,7 +99,7 @@ static bool leave_file(uint64_t cursor, unsigned window)
     return true;
 }
 
-/* Of a connection that is closed: there can be no close, and what was not sent is missing. */
+/* Of a connection that is closed: there can be no close, and the unsent part is missing. */
 static bool leave_closed(uint64_t cursor)
 {
     growing_to((uint32_t)cursor);

@@ -18,7 +18,7 @@ void tail_take_close_away(void);
 void tail_follow(uint64_t end);
 /* Cuts the files after the last record or the close, and the last fault. */
 void tail_trim(uint64_t end, enum ending ending);
-/* What is stored late, into a stream that has ended, meets plain memory. */
+/* A late store, into a stream that has ended, meets plain memory. */
 void tail_leave(void);
 
 #endif

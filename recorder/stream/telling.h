@@ -1,4 +1,4 @@
-/* A program may ask to be told of each report while it runs (interface/reports.h). What is found bad comes from
+/* A program may ask to be told of each report while it runs (interface/reports.h). Bad accesses and frees come from
    here. */
 #ifndef ASANCOL_TELLING_H
 #define ASANCOL_TELLING_H

@@ -29,8 +29,8 @@ static struct moment moment_now(void)
 }
 
 /* Takes the place of a record in a segment, with this in the index, or nothing (0). It is noted before the record is
-   written: who reads the record finds it. False: the stream has gone on in its next segment. What was looked at may not
-   stand there, so a record that says nothing has that place, and all is to be looked at again. */
+   written: who reads the record finds it. False: the stream has gone on in its next segment. The examined state may not
+   be there, so a record that says nothing has that place, and all is to be looked at again. */
 static bool reserve_with(uint32_t entry, struct moment moment, unsigned length, bool is_of_heap, unsigned char **at)
 {
     uint64_t cursor = stream_take(&STREAM->cursor, CURSOR_EVENT + length);
@@ -129,7 +129,7 @@ static bool record_stated(uint32_t entry, struct moment moment, unsigned code_an
     return is_done;
 }
 
-/* Before something bad is looked at: what is not sent of a segment is lost with its connection. */
+/* Before something bad is looked at: the unsent part of a segment is lost with its connection. */
 static void stay_connected(bool is_of_heap)
 {
     if (sending_is_cut(is_of_heap))

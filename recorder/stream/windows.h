@@ -1,6 +1,6 @@
 /* Where streams lie, and what stands beside them: in windows of two ranges of addresses, which are reserved once. The
-   offset of a record counts from the start of the range, so it says of which stream the record is. What is stored late,
-   by a thread that slept, meets plain memory, and not the stream that has come after. */
+   offset of a record counts from the start of the range, so it says of which stream the record is. A late store, by a
+   thread that slept, meets plain memory, and not the stream that has come after. */
 #ifndef ASANCOL_WINDOWS_H
 #define ASANCOL_WINDOWS_H
 

@@ -246,7 +246,7 @@ static void take_lto(struct arguments *arguments, const char *rest)
     arguments->request->makes_other = true;
 }
 
-/* What is compiled has all that it uses of the library of C++: it is no object of the machine, or lies elsewhere than
+/* The object has everything that it uses of the C++ library: it is no object of the machine, or lies elsewhere than
    where its name says; its text is kept too, and may be compiled again; or a shared object is made of it, which any
    linker can do. */
 static void take_apart(struct arguments *arguments, const char *rest)

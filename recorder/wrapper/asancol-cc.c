@@ -2,7 +2,7 @@
 
    It changes no argument of its caller's. It looks at them, in response files too, to see what the compiler will do
    (arguments.c); asks the compiler which it is (compilers.c); adds what that wants when it compiles (compiling.c) and
-   when it links (linking.c); and runs it (running.c). What it did not compile of what is linked it notes in the program
+   when it links (linking.c); and runs it (running.c). The linked code that it did not compile it notes in the program
    (taken.c). The name by which it is called says for which languages it is (fronts.def). */
 #define _GNU_SOURCE
 #include <stdio.h>
@@ -30,7 +30,7 @@ static void read_arguments(struct job *job)
 
 #define NOTHING "with this nothing is recorded"
 
-/* Says what is compiled here and will not be recorded. */
+/* Warns of code compiled here that will not be recorded. */
 static void warn_of_unrecorded(const struct job *job)
 {
     const struct request *request = &job->request;

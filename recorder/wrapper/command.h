@@ -7,7 +7,7 @@
 #include "common/strings.h"
 #include "wrapper/fronts.h"
 
-/* What is for the wrapper itself. ccache sees options, and no variables. */
+/* The wrapper's own options. ccache sees options, and no variables. */
 struct own_options {
     const char *compiler; /* in words, or null */
     bool is_all, has_loops;

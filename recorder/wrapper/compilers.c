@@ -38,7 +38,7 @@
           "-fsanitize-address-use-after-scope", "-mllvm", "-asan-instrumentation-with-call-threshold=" threshold,      \
           "-mllvm", "-asan-force-experiment=" experiment, "-mllvm", "-asan-guard-against-version-mismatch=0")
 
-/* Beside cold_reports.h: what is needed after a call for a bad access is kept on the stack before it, and not in a
+/* Beside cold_reports.h: values needed after a call for a bad access are kept on the stack before it, and not in a
    register that the function has to save at each of its starts. The cost is that of one run in 2^14 of them. */
 #define CLANG_COLD FLAGS("-mllvm", "-regalloc-csr-first-time-cost=16384", "-fno-addrsig")
 

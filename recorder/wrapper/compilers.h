@@ -21,7 +21,7 @@ struct compiler {
     struct flags all_flags; /* or a call before each access */
     struct flags use_after_return[USES_AFTER_RETURN]; /* with these */
     struct flags after;     /* after the caller's arguments, with inline checks */
-    struct flags last;      /* after them in any case, for what is compiled: none of them takes these back */
+    struct flags last;      /* after them in any case, for compilations: none of them takes these back */
     const char *header;     /* a file of the recorder's that it includes after the caller's, the same; or null */
     const char *intrinsics; /* and one in any case, which makes accesses of what its checks do not know; or null */
     const char *own_number; /* before a number that makes the noted switches of each object its own, or null */
@@ -33,7 +33,7 @@ struct compiler {
     bool compiles_at_link;  /* what it made with -flto is compiled with the settings that are given to the link */
 };
 
-/* What is said of another one. */
+/* The message about another one. */
 #define UNKNOWN_COMPILER "neither GCC nor Clang by its --version: what it compiles is not recorded"
 
 /* The compiler that a command runs, of which the first word is a path. It asks the compiler: a name says little, as

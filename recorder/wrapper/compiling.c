@@ -15,7 +15,7 @@
 #include "wrapper/say.h"
 #include "wrapper/self.h"
 
-/* The compiler notes its switches in the object, where the link finds what was compiled so (linked.c). */
+/* The compiler notes its switches in the object, by which the link finds such objects (linked.c). */
 #define NOTE_SWITCHES "-frecord-gcc-switches"
 
 /* Linkers keep one of the noted switches that are the same. Clang notes the names of its files, and so they differ. GCC
@@ -74,7 +74,7 @@ static void add_loops(struct strings *line, const struct job *job)
     strings_add(line, word);
 }
 
-/* GCC compiles at the link what was made with -flto. */
+/* GCC compiles objects of -flto at the link. */
 static bool compiles_at_link(const struct job *job)
 {
     return job->compiler->compiles_at_link && job->request.inputs.linked.has_marked;

@@ -10,7 +10,7 @@ char *compiling_object(const struct job *job);
 void compiling_add_before(struct strings *line, const struct job *job);
 /* After them: if they name a precompiled header, it has to be the first that is included. */
 void compiling_add_after(struct strings *line, const struct job *job);
-/* What is given in place of all that, if nothing is recorded. */
+/* The replacement for all that, if nothing is recorded. */
 void compiling_add_note(struct strings *line, const struct job *job);
 
 #endif

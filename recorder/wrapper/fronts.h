@@ -16,7 +16,7 @@ struct called {
     const char *compiler; /* that its name says, as asancol-clang-15; or null */
 };
 
-/* What is meant by the word that the program was called by; or, if that says nothing, by the path that was run: by its
+/* The meaning of the name by which the program was called; or, if that says nothing, by the path that was run: by its
    name, or the first name along its links. Any other name means the first row. */
 struct called called_as(const char *word, const char *path);
 

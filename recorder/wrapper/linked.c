@@ -139,7 +139,7 @@ struct parts {
     bool has_code, has_variables, has_lto;
     bool has_assembly; /* a label in code that is no function: no compiler makes one */
     bool is_of_rust;   /* rustc has made some of it */
-    bool asks_checks;  /* of what is compiled with checks */
+    bool asks_checks;  /* of code compiled with checks */
     bool has_own_names; /* functions or variables whose names are not rustc's */
     bool is_rust_own;   /* a crate of Rust's library */
     size_t files;  /* sources that the table of symbols names */

@@ -125,7 +125,7 @@ void linking_add_before(struct strings *line, const struct job *job)
     add_file(line, linking_is_static(link) ? "libasancol_first_static.a" : "libasancol_first.a");
 }
 
-/* What was compiled here, or so before, has checks, also if it has no access. */
+/* An object compiled here, or this way before, has checks, also if it has no access. */
 static bool has_checks(const struct request *request)
 {
     const struct linked *linked = &request->inputs.linked;
@@ -197,7 +197,7 @@ void linking_add_after(struct strings *line, const struct job *job)
         add_to_shared_object(line, job);
     else
         add_to_program(line, job);
-    /* What was called of it is called by the recorder now, which stands behind it. */
+    /* The functions called in it are called by the recorder now, which stands behind it. */
     if (has_libm)
         strings_add(line, LIBM);
 }

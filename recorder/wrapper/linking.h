@@ -12,8 +12,8 @@ void linking_add_after(struct strings *line, const struct job *job);
 bool linking_is_static(const struct link_request *link);
 /* Whether a program gets of the calls that are checked no more than its objects ask for. */
 bool linking_has_some_calls(const struct job *job);
-/* Looks into what was linked. True: it has to be linked again. A function is left alone if the program has a variable
-   of its name, whose uses would be wrapped too; and what is asked for weakly brings no call in. Fails if a function of
+/* Examines the linked file. True: it must be linked again. A function is left alone if the program has a variable
+   of its name, whose uses would be wrapped too; and weak references bring no call in. Fails if a function of
    the program's would be called that is not in a plain build. */
 bool linking_needs_another(struct job *job, const char *output);
 

@@ -20,7 +20,7 @@ static bool is_variable(const Elf64_Sym *symbol)
     return symbol->st_shndx != SHN_UNDEF && (type == STT_OBJECT || type == STT_TLS || type == STT_NOTYPE);
 }
 
-/* A variable of one file alone matters to no other. What was hidden is local too: some linkers keep that it was hidden,
+/* A variable of one file alone matters to no other. A hidden one is local too: some linkers keep that it was hidden,
    and others have it after a nameless file. */
 static bool is_of_one_file(const Elf64_Sym *symbol, bool has_file)
 {

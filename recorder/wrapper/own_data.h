@@ -10,7 +10,7 @@
 /* This brings all stubs into a program (calls/every.c). */
 #define EVERY_CALL "asancol_every_call"
 
-/* What is in a program that was linked. */
+/* The contents of a linked program. */
 struct own_data {
     bool *is_own;        /* of each name: something other than a function has it */
     bool has_own;        /* one of them */
@@ -19,7 +19,7 @@ struct own_data {
     char *unasked;       /* __wrap_NAME, a function of the program's for a name that it does not ask for; or null */
 };
 
-/* Fills in what is found of these names. */
+/* Fills in the data found of these names. */
 void own_data_find(const char *path, const char *const *names, size_t count, const struct names *asked_for,
                    struct own_data *found);
 

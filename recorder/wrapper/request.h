@@ -17,7 +17,7 @@ struct inputs {
     bool has_text;     /* one that is preprocessed and compiled */
     bool has_linked;   /* one that comes to be linked: a header does not */
     bool has_standard; /* standard input */
-    struct linked linked;  /* what is linked as it is */
+    struct linked linked;  /* inputs that are linked unchanged */
     struct names sources;  /* those that are compiled */
     struct names assembly; /* those in which there are no checks */
 };
@@ -33,7 +33,7 @@ struct link_request {
     bool has_libm;      /* the mathematics of the C library */
     bool has_cxx_inside; /* the library of C++ is linked as an archive */
     const char *cxx;     /* a word that names this library, the last one; or null */
-    bool is_stripped;   /* what is linked has no table of symbols */
+    bool is_stripped;   /* the linked file has no table of symbols */
     bool is_traced;     /* the caller wants to see what the linker takes in */
     bool needs_every_call; /* what the program is linked with may call any function that is wrapped */
     const char *output; /* null if it is not named */
@@ -46,7 +46,7 @@ struct request {
     bool stops_early;    /* before the link */
     bool makes_object;   /* by -c, unless it */
     bool makes_other;    /* than an object of the machine where it was asked for; or it may be linked without us */
-    bool is_shown;       /* what is preprocessed is printed, and not compiled */
+    bool is_shown;       /* preprocessed text is printed, and not compiled */
     bool is_dry;         /* what would be run is printed, and not run */
     bool is_optimized;   /* by its last word of that kind */
     bool is_verbose;     /* the compiler says what it does, by -v */

@@ -38,7 +38,7 @@ static bool is_at_terminal(void)
     return isatty(STDERR_FILENO) && terminal != NULL && strcmp(terminal, "dumb") != 0;
 }
 
-/* What is run: the compiler with its caller's arguments and ours. */
+/* The command: the compiler with its caller's arguments and ours. */
 static struct strings make_line(const struct job *job, bool is_try)
 {
     struct strings line = {0};
@@ -284,7 +284,7 @@ static int link_first(struct job *job, struct link *link, bool is_try, bool is_s
     return status;
 }
 
-/* Whether it is to be linked again, by what it has taken in and what is in it. */
+/* Whether it is to be linked again, by the members taken in and by its contents. */
 static bool needs_another(struct job *job, const struct link *link, const char *output)
 {
     bool lacks_calls = link->taken.has_library && linking_has_some_calls(job);

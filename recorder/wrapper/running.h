@@ -4,8 +4,8 @@
 
 #include "wrapper/job.h"
 
-/* Links, and returns the status to end with. What was linked shows which names the program has for itself: then it is
-   linked again. What was not compiled by the wrapper is noted in the program. */
+/* Links, and returns the status to end with. The linked file shows which names the program has for itself: then it is
+   linked again. Code that the wrapper did not compile is noted in the program. */
 int running_link(struct job *job);
 /* Compiles an object that asks for checked_names.h, and returns the status to end with. */
 int running_compile(struct job *job);

@@ -236,7 +236,7 @@ static size_t find_note(const char *path)
     return found;
 }
 
-/* What objects say of themselves, which is kept in what is made of them. */
+/* The objects' notes on themselves, which a merged object keeps. */
 static void take_said(struct taken *taken, const char *output)
 {
     struct view view = view_map(output), said = view_find(view, LINK_NOTE_LINES);

@@ -24,7 +24,7 @@ struct taken {
 bool taken_line(struct taken *taken, const char *line);
 /* All lines were taken. */
 void taken_end(struct taken *taken);
-/* Writes it, and what the objects in there say of themselves, into the note of what was linked, if there is one. */
+/* Writes it, and what the objects in there say of themselves, into the note of the linked file, if there is one. */
 void taken_write(struct taken *taken, const char *output);
 
 #endif
