@@ -1,0 +1,5 @@
+mod Words
+mod Marks
+mod Lines
+mod Texts
+mod Feeds
