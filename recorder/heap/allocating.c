@@ -123,9 +123,9 @@ static void note_malloc(uintptr_t address, size_t size)
         note_left_out(heap_shard());
 }
 
-/* Blocks of some pages get them at once, which takes half as long as a fault for each: if the process has been handed out
-   enough to seem to allocate many, and only up to the size from which glibc maps each block, of which programs may leave
-   much untouched. */
+/* Blocks of some pages get them at once, which takes half as long as a fault for each. Only in a process that was handed
+   out much, so it seems to allocate again and again; and only up to the size from which glibc maps each block, since
+   programs may leave much of a larger one untouched. */
 static void populate(const struct block *block, uintptr_t address, size_t size)
 {
     enum { FIRST_POPULATED = 256, MOST_POPULATED = 128 << 10 };
