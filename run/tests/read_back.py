@@ -14,7 +14,7 @@ from testing.programs import call
 
 sys.path.insert(0, f"{TOP}/tests")  # where `draws` is
 
-import draws  # noqa: E402
+import draws  # type: ignore[import]  # noqa: E402
 
 # How many batches of traces are drawn, and of how many each. asancol takes 256 at once, and the last three are others.
 BATCHES, TRACES = 10, 253
