@@ -21,8 +21,13 @@ RULE = "=" * 65
 ALLOCATING = {"operator new": "operator new(unsigned long)", "operator new []": "operator new[](unsigned long)"}
 FREEING = {"malloc": "free", "operator new": "operator delete(void*)", "operator new []": "operator delete[](void*)"}
 OPERATORS = {"operator delete": "operator delete(void*)", "operator delete []": "operator delete[](void*)"}
-# What is said of a signal's access.
+# What is said of an access, and of a signal's: a jump reads instructions.
 ACCESSES = {"load": "READ", "store": "WRITE"}
+SIGNALLED = {**ACCESSES, "jump": "READ"}
+# Classes of crashes by an access. If its address is not known, none is named.
+BY_ACCESS = ("SEGV", "BUS")
+WILD_HINT = ("Hint: this fault was caused by a dereference of a high value address (see register values below).  "
+             "Disassemble the provided pc to learn which register was used.")
 # Addresses below this are of the page that no program has.
 ZERO_PAGE = 4096
 # The largest request, as AddressSanitizer has it.
@@ -220,18 +225,24 @@ class AsanText(Text):
                 yield from self.crash(crash, process, results.bases_of(crash))
 
     def crash(self, crash: Crash, process: Process, bases: Bases) -> Iterator[str]:
-        pid, pc = process.pid, max(self.pc(crash.stack, bases) - 1, 0)
-        address = pc if process.address is None else process.address
+        pid, address = process.pid, process.address
+        is_jump = process.access == "jump" and address is not None
+        pc = address if address is not None and is_jump else max(self.pc(crash.stack, bases) - 1, 0)
         thread = thread_name(process.threads, process.threads.access)
         on = "on address" if crash.class_name == "stack-overflow" else "on unknown address"
+        if address is not None or crash.class_name not in BY_ACCESS:
+            on += f" 0x{pc if address is None else address:012x}"
         yield "AddressSanitizer:DEADLYSIGNAL"
         yield RULE
-        yield (f"=={pid}==ERROR: AddressSanitizer: {crash.class_name} {on} 0x{address:012x} "
+        yield (f"=={pid}==ERROR: AddressSanitizer: {crash.class_name} {on} "
                f"(pc 0x{pc:012x} {invented_registers(pc)} {thread})")
-        if crash.class_name in ("SEGV", "BUS"):
-            how = ACCESSES.get(process.access)
-            yield f"=={pid}==The signal is caused by a {how or 'UNKNOWN'} memory access."
-            if process.address is not None and address < ZERO_PAGE:
+        if is_jump and pc < ZERO_PAGE:
+            yield f"=={pid}==Hint: pc points to the zero page."
+        if crash.class_name in BY_ACCESS:
+            yield f"=={pid}==The signal is caused by a {SIGNALLED.get(process.access, 'UNKNOWN')} memory access."
+            if address is None:
+                yield f"=={pid}=={WILD_HINT}"
+            elif address < ZERO_PAGE:
                 yield f"=={pid}==Hint: address points to the zero page."
         yield from self.frames(crash.stack, bases)
         yield from self.created(process.threads, bases)

@@ -2,10 +2,12 @@
 
 import json
 import os
+import re
 import xml.dom.minidom
 from typing import Any, Dict, List
 
 from asancol_report import side as layout
+from asancol_report.asan_text import WILD_HINT
 from testing import expect, expect_in, expect_not_in
 from testing.reports import END, FREED, Feed, build, freed_block, report, report_test
 from testing.side import SIGNAL, Parts, Program, of_program
@@ -93,6 +95,29 @@ def crash_says_how_it_came(folder: str) -> None:
             file.write(rule + "\n")
         ran = report(folder, "a.jsonl", "--suppressions", "rules")
         expect_in(ran.out, f"{count} crash{'es' * (count > 1)} suppressed")
+
+
+@report_test
+def crash_in_the_text_of_asan(folder: str) -> None:
+    """As AddressSanitizer says it: a wild pointer has no address there, and a jump goes where the pc is."""
+    program = build(folder)
+    feed = Feed(folder, "--source-root", ".", "--format=asan")
+    feed.begin()
+    known = layout.HAS_ADDRESS
+    ways = (("use", 0), ("drop", known | layout.BY_STORE), ("make", known | layout.BY_JUMP))
+    for number, (place, how) in enumerate(ways):
+        feed.process(number, NO_REPORTS, crashed(program, place, how=how), signal=11, fate="no-close",
+                     why="ended by SIGSEGV")
+    said = [line.partition("==ERROR: AddressSanitizer: ")[2] or line.rpartition("==")[2]
+            for line in feed.end().out.splitlines() if line.startswith("==10")]
+    said = [re.sub(r"pc 0x(?!0{10}10)\w+ bp .* sp 0x\w+", "pc AT", line) for line in said]
+    expect(said, [
+        "SEGV on unknown address (pc AT T0)", "The signal is caused by a UNKNOWN memory access.", WILD_HINT, "ABORTING",
+        "SEGV on unknown address 0x000000000010 (pc AT T0)", "The signal is caused by a WRITE memory access.",
+        "Hint: address points to the zero page.", "ABORTING",
+        "SEGV on unknown address 0x000000000010 (pc 0x000000000010 bp 0x7ffffffff000 sp 0x7fffffffeff8 T0)",
+        "Hint: pc points to the zero page.", "The signal is caused by a READ memory access.",
+        "Hint: address points to the zero page.", "ABORTING"], "what is said")
 
 
 @report_test
