@@ -100,12 +100,32 @@ static enum done take_symbolizer(const char *path)
     return TAKEN;
 }
 
+/* Makes the folders that are missing above a file, as AddressSanitizer does. Whether a file can be made there. */
+static bool make_folders_above(const char *path)
+{
+    char *above = must(strdup(path)), *last = strrchr(above, '/');
+    if (last == NULL) {
+        free(above);
+        return access(".", W_OK | X_OK) == 0;
+    }
+    for (char *slash = strchr(above + 1, '/'); slash != NULL; slash = strchr(slash + 1, '/')) {
+        *slash = 0;
+        mkdir(above, 0755); /* it may be there */
+        *slash = '/';
+    }
+    last[last == above] = 0;
+    bool is_good = access(above, W_OK | X_OK) == 0;
+    free(above);
+    return is_good;
+}
+
 static enum done take_log(struct options *options, const char *path)
 {
     if (*path == 0 || strcmp(path, "stderr") == 0)
         return HARMLESS;
-    bool is_stdout = strcmp(path, "stdout") == 0;
-    return is_stdout ? give(options, "log-file", "/dev/stdout") : give(options, "log-path", path);
+    if (strcmp(path, "stdout") == 0)
+        return give(options, "log-file", "/dev/stdout");
+    return make_folders_above(path) ? give(options, "log-path", escaped(path)) : WITHOUT_EFFECT;
 }
 
 static enum done take_for_run(struct options *options, const struct asan_word *word)

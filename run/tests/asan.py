@@ -29,10 +29,12 @@ def check_statuses(suite: Suite, folder: str) -> None:
         ASAN_OPTIONS="quarantine_size_mb=1")
     ran(99, "1024 bytes of freed memory are held back (ASANCOL_QUARANTINE)", option="--full",
         ASAN_OPTIONS="quarantine_size_mb=1", ASANCOL_QUARANTINE="1024")
-    ran(99, PAST, ASAN_OPTIONS=f"log_path={folder}/log:detect_odr_violation=2")
-    (log,) = glob.glob(f"{folder}/log.*")
-    with open(log, encoding="utf-8") as file:
-        expect(": AddressSanitizer: heap-buffer-overflow" in file.read(), True, "the file of the process")
+    for name in ("log", "new/of%b/log"):  # folders are made, and a percent sign is one
+        ran(99, PAST, ASAN_OPTIONS=f"log_path={folder}/{name}:detect_odr_violation=2")
+        (log,) = glob.glob(f"{folder}/{name}.*")
+        with open(log, encoding="utf-8") as file:
+            expect(": AddressSanitizer: heap-buffer-overflow" in file.read(), True, "the file of the process")
+    ran(99, PAST, "without effect here: log_path=/proc/new/log\n", ASAN_OPTIONS="log_path=/proc/new/log")
 
 
 def check_named(suite: Suite, folder: str) -> None:
