@@ -1,5 +1,5 @@
-/* The words of ASAN_OPTIONS, LSAN_OPTIONS and of what a program says by __asan_default_options, and what is known of
-   them. The recorder reads them at its start: nothing of the C library is called that needs more than its arguments. */
+/* The words of ASAN_OPTIONS, LSAN_OPTIONS and of what a program says by __asan_default_options, and their properties.
+   The recorder reads them at its start: nothing of the C library is called that needs more than its arguments. */
 #ifndef ASANCOL_ASAN_OPTIONS_H
 #define ASANCOL_ASAN_OPTIONS_H
 

@@ -1,4 +1,4 @@
-/* How far apart two words are: what is meant by a word that is not known is the nearest one. */
+/* How far apart two words are: the nearest known word is suggested for an unknown one. */
 #ifndef ASANCOL_DISTANCE_H
 #define ASANCOL_DISTANCE_H
 

@@ -127,7 +127,7 @@ enum { SIDE_BUILDS = 4096, SIDE_PROGRESS = 7680, SIDE_SETTINGS = 8128, SIDE_BESI
 enum { SIDE_INDEX = 1 << 18, SIDE_INDEX_ENTRY = 4 };
 /* In an entry of the index: the event is a further piece of an access that has this fault, and not one by itself. */
 #define SIDE_IS_PIECE (UINT32_C(1) << 31)
-/* What was not checked is after the modules: lines, and zeros after them. */
+/* The unchecked code comes after the modules: lines, and zeros after them. */
 enum { SIDE_UNCHECKED_ROOM = 1 << 14, SIDE_UNCHECKED = SIDE_INDEX - SIDE_UNCHECKED_ROOM };
 #define SIDE_THREADS_AT (SIDE_INDEX + EVENT_LIMIT * SIDE_INDEX_ENTRY)
 #define SIDE_FAULTS_AT (SIDE_THREADS_AT + SIDE_THREADS * sizeof(struct side_thread))
@@ -195,7 +195,7 @@ struct side_progress {
     uint64_t leaks_missed; /* 1: it was to look for leaks, and could not the last time */
     uint64_t left_good; /* how many good mallocs, frees and poisons of its blocks it has left out */
     uint64_t inside;    /* the signal of a fault that the recorder's own code has met; 0: none */
-    uint64_t closed_off; /* 1: it has closed the descriptor, so what was not sent by then is missing */
+    uint64_t closed_off; /* 1: it has closed the descriptor, so everything unsent by then is missing */
     uint64_t sender;     /* another process that has sent the signal that has ended it; 0: none, as far as it knows */
     uint64_t skipped;    /* enum side_skipped */
     uint64_t noted_children;          /* how many children of a fork have had their numbers put here, */
@@ -204,7 +204,7 @@ struct side_progress {
                             again: that stays in later segments; 0: it never has */
 };
 
-/* What was not looked at: these are added. */
+/* Checks that were turned off: these are added. */
 enum side_skipped {
     SKIPPED_FAMILIES = 1, /* by which family of functions a block was freed: ASANCOL_MISMATCHES is 0 */
     SKIPPED_RETURNS = 2,  /* functions asked for frames by which uses after return are found, and
@@ -226,7 +226,7 @@ struct side_settings {
 /* A thread that is not known. */
 #define SIDE_NO_THREAD UINT32_MAX
 
-/* What is known of threads beside the list of them. */
+/* Further data of threads, beside the list of them. */
 struct side_beside_threads {
     uint32_t last; /* the one that the signal has met that ended the process: as of a fault */
     uint32_t spare;
@@ -252,7 +252,7 @@ struct side_found {
                        pointers, the second */
 };
 
-/* What was seen when an access or a free was bad by the recorder's shadow; or a finding. */
+/* The circumstances of an access or a free that was bad by the recorder's shadow; or a finding. */
 struct side_fault {
     uint64_t event;     /* the first that has this fault; of a finding 0 */
     uint64_t call_site; /* the address after the call */

@@ -17,7 +17,7 @@ static inline bool ends_with(const char *text, const char *end)
     return length > of_end && strcmp(text + length - of_end, end) == 0;
 }
 
-/* What is after the last slash. */
+/* The part after the last slash. */
 static inline const char *base_name(const char *path)
 {
     const char *slash = strrchr(path, '/');

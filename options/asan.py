@@ -1,4 +1,4 @@
-"""What is made of the table of AddressSanitizer's options: the tables of its page."""
+"""Generated from the table of AddressSanitizer's options: the tables of its page."""
 
 from __future__ import annotations
 

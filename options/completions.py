@@ -1,4 +1,4 @@
-"""What is made of a table for the shells bash, zsh and fish."""
+"""Generates completions for bash, zsh and fish from a table."""
 
 from __future__ import annotations
 

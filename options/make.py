@@ -1,5 +1,5 @@
 #!/usr/bin/env python3
-"""Writes what is made of the tables of options beside it: completions, lists of manual pages, and code; and the tables
+"""Generates from the tables of options beside it: completions, lists of manual pages, and code; and the tables
 of docs/ASAN.md, of common/asan_options.def.
 
 usage: options/make.py [--check [ASANCOL]]
@@ -7,8 +7,8 @@ usage: options/make.py [--check [ASANCOL]]
 With --check nothing is written: a line is printed for each file that is not what would be written, and for each option
 of ASANCOL whose help is not that of the table. The status is 1 if there is one. table.py says what a table has.
 
-What is made is committed: who builds the programs needs no Python for it, and who changes a table sees what happens to
-it. The options of asancol are read by a proved crate, which has its help too: both are compared, and not made.
+The generated files are committed: a build needs no Python, and a change of a table shows its effects.
+The options of asancol are read by a proved crate, which has its help too: both are compared, and not made.
 """
 
 from __future__ import annotations
@@ -39,7 +39,8 @@ def text_of(path: str) -> str:
 
 
 def files_of(name: str, programs: List[table.Program]) -> Dict[str, str]:
-    """Returns what is made of a table, by path. The page of a second program of a folder leads to that of the first."""
+    """Returns the files generated from a table, by path. The page of a second program of a folder leads to that of the
+    first."""
     made = f"Made by `make options` from options/{name}.options."
     files: Dict[str, str] = {}
     firsts: Dict[str, str] = {}

@@ -1,4 +1,4 @@
-"""What is made of a table for manual pages: lists of options, in the macros of man or in mdoc's."""
+"""Generates from a table for manual pages: lists of options, in the macros of man or in mdoc's."""
 
 from __future__ import annotations
 
@@ -7,7 +7,7 @@ from typing import Iterator, List, Set
 
 from table import Option, Program, Wrong
 
-# What is literal, a value, or another page.
+# Literal text, a value, or another page.
 MARKED = re.compile(r"`([^`]+)`|\*([^*]+)\*|([\w+-]+)\((\d)\)")
 GLUED = re.compile(r"^(.*?)(\S*)$")
 REGION = re.compile(r'(?<=^\.\\" options: )(?:(.+): )?(.+)\n(?:.*\n)*?(?=^\.\\" end of options$)', re.M)
@@ -19,7 +19,7 @@ def dashed(text: str) -> str:
 
 
 def line_of(match: "re.Match[str]", before: str, after: str, is_mdoc: bool) -> str:
-    """Returns the macro for a marked word, with what is glued to it."""
+    """Returns the macro for a marked word, with the text attached to it."""
     literal, value, page, section = match.groups()
     if is_mdoc:
         word = literal or value or f"{page} {section}"

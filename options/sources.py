@@ -1,4 +1,4 @@
-"""What is made of a table for programs: the help, the table of C, and that of Python."""
+"""Generates from a table for programs: the help, the table of C, and that of Python."""
 
 from __future__ import annotations
 

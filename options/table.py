@@ -37,7 +37,7 @@ from typing import Dict, Iterator, List, NamedTuple, Tuple
 
 
 class Wrong(Exception):
-    """What is wrong with a table."""
+    """A mistake in a table."""
 
 
 class Takes(NamedTuple):

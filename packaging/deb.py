@@ -1,5 +1,5 @@
 #!/usr/bin/env python3
-"""Makes a package for Debian from what is built: asancol_VERSION-1_amd64.deb.
+"""Makes a package for Debian from the build: asancol_VERSION-1_amd64.deb.
 
 usage: packaging/deb.py [FOLDER]
 
@@ -65,7 +65,7 @@ def install(root: str) -> None:
 
 
 def strip(root: str) -> None:
-    """Takes out what is for debuggers alone, and what differs from build to build. Linkers need the archives' names."""
+    """Removes sections for debuggers, and those that differ from build to build. Linkers need the archives' names."""
     for name in PROGRAMS:
         subprocess.run(["strip", "--remove-section=.comment", f"{root}/usr/bin/{name}"], check=True)
     for archive in glob.glob(f"{root}/usr/lib/asancol/*.a"):

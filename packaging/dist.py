@@ -18,7 +18,7 @@ import tarfile
 import tempfile
 
 TOP = os.path.dirname(os.path.dirname(os.path.abspath(__file__)))
-# What is made of the sources, and a page that is committed beside it.
+# A file generated from the sources, and a page that is committed beside it.
 MADE, BESIDE = "docs/CALLS.md", "docs/FORMAT.md"
 
 

@@ -1,5 +1,5 @@
 #!/usr/bin/env python3
-"""Makes a release of what is committed: its archive, its package and its tag.
+"""Makes a release of the commit: its archive, its package and its tag.
 
 The release is the one that VERSION says, and its tag is `v` with that. It is made if nothing differs from the commit,
 CHANGELOG.md has a section for it, there is no such tag yet, and lint_tree.py finds nothing. First come the archive and

@@ -1,6 +1,6 @@
 /* Included by asancol-cc before what Clang compiles: the calls after checks that find an access bad are seldom made.
-   Clang then keeps what they need out of the way of the others. It emits nothing of this: what is in the section
-   llvm.metadata is known to the compiler alone. */
+   Clang then keeps what they need out of the way of the others. It emits nothing of this: the section llvm.metadata is
+   for the compiler alone. */
 #if !defined(ASANCOL_COLD_REPORTS) && !defined(__ASSEMBLER__)
 #define ASANCOL_COLD_REPORTS
 #pragma GCC system_header

@@ -14,7 +14,7 @@ void arrivals_begin(void);
 void arrivals_add(struct segment *segment);
 /* Adds one that is ready. */
 void arrivals_add_ready(struct segment *segment);
-/* What is to be polled; and finds what is ready if the poll says that there is something. */
+/* The descriptor to be polled; and finds the ready ones if the poll says that there are some. */
 struct pollfd arrivals_poll(void);
 void arrivals_find(void);
 /* Takes the first that is ready; or answers null. */

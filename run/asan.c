@@ -151,7 +151,7 @@ static enum done take_for_run(struct options *options, const struct asan_word *w
     }
 }
 
-/* The recorder takes it: here it counts what is not to be wondered at. */
+/* The recorder takes it: here it counts the expected ones. */
 static enum done note_for_processes(struct options *options, const struct asan_word *word)
 {
     bool has_levels = word->option == ASAN_detect_odr_violation || word->option == ASAN_detect_invalid_pointer_pairs;

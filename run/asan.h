@@ -7,7 +7,7 @@
 
 /* Gives the options what the variables say, and notes for the verdict what has no effect. */
 void asan_take(struct options *options);
-/* What is meant by an option of AddressSanitizer that was given as one of ours, with dashes for its underscores; or
+/* The counterpart of an option of AddressSanitizer that was given as one of ours, with dashes for its underscores; or
    null. */
 const char *asan_hint(const char *name, size_t length);
 

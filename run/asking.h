@@ -11,7 +11,7 @@
 /* How many may ask at once: others wait. */
 enum { ASKING_MOST = 8, ASKING_POLLS = HUB_LISTENERS + ASKING_MOST };
 
-/* Fills in what is to be polled, and answers for how many seconds at most. */
+/* Fills in the descriptors to be polled, and returns for how many seconds at most. */
 double asking_polls(struct pollfd *polls, double seconds);
 void asking_take(const struct pollfd *polls);
 /* Whether one asks, or waits for its turn. */

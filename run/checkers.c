@@ -31,7 +31,7 @@ static struct {
     bool keeps;
 } checkers;
 
-/* What a checker runs as, with as much held as the process holds: else it would report what is sound. */
+/* What a checker runs as, with as much held as the process holds: else it would report good events. */
 static struct strings argv_for(const struct segment *segment)
 {
     static const char option[] = "--quarantine";

@@ -23,8 +23,8 @@ struct child {
 
 enum { BUCKETS = 4096 };
 static struct child *buckets[BUCKETS];
-static sigset_t mask;  /* of what is started */
-static bool pipes_end; /* SIGPIPE ends what is started, though it is ignored here */
+static sigset_t mask;  /* of the started program */
+static bool pipes_end; /* SIGPIPE ends the started program, though it is ignored here */
 static char **checkers_environment;
 
 /* Makes the environment of the checkers: this one, and huge pages for the shadow, unless it says something of them. */
@@ -82,7 +82,7 @@ static bool give(int from, int to)
 static int become(const struct start *start, char **environment)
 {
     const struct sigaction usual = {.sa_handler = SIG_DFL};
-    /* What is typed at the terminal ends the command, and not its check. */
+    /* Ctrl-C at the terminal ends the command, and not its check. */
     bool is_ready = setpgid(0, 0) == 0 && give(start->input, STDIN_FILENO) && give(start->output, STDOUT_FILENO)
                     && give(STDERR_FILENO, STDERR_FILENO);
     for (size_t i = 0; is_ready && i < start->passed_count; i++)

@@ -11,7 +11,7 @@ enum role { ROLE_CHECKER, ROLE_SHARED, ROLE_TEE, ROLE_REPORT };
 /* Notes how signals stand, before the first signal is blocked. */
 void children_begin(void);
 
-/* What is started for whom. */
+/* The kinds of started programs. */
 struct start {
     enum role role;
     void *owner;

@@ -41,9 +41,9 @@ enum { MAX_AT_ONCE = 64 };
 /* How many traces in files are checked at once. */
 enum { FILES_AT_ONCE = 8 };
 
-/* In seconds: between SIGTERM and SIGKILL of --timeout, between looks at what is left, until a shortage is tried
-   again, until what does not end after the last cut is left alone, until there is a line of progress, and within which
-   two signals are one: the sender's, and that to our process group. */
+/* In seconds: between SIGTERM and SIGKILL of --timeout, between looks at the remaining processes, until a shortage is
+   tried again, until what does not end after the last cut is left alone, until there is a line of progress, and within
+   which two signals are one: the sender's, and that to our process group. */
 static const double GRACE = 5, LOOK = 1, SHORTAGE = 0.05, LAST = 30, PROGRESS = 2, TOGETHER = 0.5;
 
 static struct {
@@ -257,7 +257,7 @@ static void start_arrivals(bool is_ready)
     }
 }
 
-/* Those whose streams are small: checks what is due, and takes back who needs a checker of its own. */
+/* Those whose streams are small: checks the due ones, and takes back those that need a checker of their own. */
 static void take_held(bool is_ready, bool hurries)
 {
     struct segment *segment;
@@ -280,7 +280,7 @@ static double until_due(double seconds, bool is_short)
     return left >= seconds ? seconds : left > 0 ? left : 0;
 }
 
-/* What is polled in a turn: the same few, however many processes there are. */
+/* The polled descriptors of a turn: the same few, however many processes there are. */
 enum { SIGNALS, FIRST, SECOND, REPORT, HELD, ARRIVALS, ASKING, MOST_POLLS = ASKING + ASKING_POLLS };
 
 /* poll refuses more entries than a process may have descriptors, and counts those that it passes over. */

@@ -5,7 +5,7 @@
 #include <stdbool.h>
 #include <sys/types.h>
 
-/* What is known of a process. */
+/* Data on a process. */
 enum death {
     DEATH_NONE,   /* it still runs, or nobody can say */
     DEATH_UNSEEN, /* it is gone */
@@ -16,7 +16,7 @@ enum death {
 void death_note(pid_t number, int status);
 /* The same, as a parent has said that has waited for it. */
 void death_note_of_parent(pid_t number, int status);
-/* What is known of a process, by its number here, and how it ended, as of waitpid. A number that another process has by
+/* Data on a process, by its number here, and how it ended, as of waitpid. A number that another process has by
    now reads as one that still runs. */
 enum death death_of(pid_t number, int *status);
 /* Whether it is gone, and not we have waited for it, but somebody else. */

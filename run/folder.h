@@ -10,7 +10,7 @@
 /* How its name ends. */
 #define FOLDER_END "/asancol-XXXXXX"
 
-/* Whether others than its group, its owner and root can move what is in a folder. */
+/* Whether others than its group, its owner and root can move the contents of a folder. */
 bool folder_is_open_to_all(const char *base);
 /* Makes it in another folder. The room gets its path, which has to fit. */
 bool folder_make(const char *base, char *path, size_t room);
@@ -18,7 +18,7 @@ bool folder_make(const char *base, char *path, size_t room);
 bool folder_open_socket(const char *name);
 /* The same, and gives it another name. */
 bool folder_give_name(const char *before, const char *name);
-/* What is in it; null: there is no folder. */
+/* Its contents; null: there is no folder. */
 DIR *folder_entries(void);
 /* What has happen to it, as "removed"; null: it is there, or there is none. */
 const char *folder_lost(void);

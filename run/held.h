@@ -12,7 +12,7 @@
 void held_begin(void);
 /* Takes one that has sent its first bytes. False: it gets a checker of its own now. */
 bool held_take(struct segment *segment);
-/* What is to be polled, and when something is due at the latest, as now() says it; or INFINITY. */
+/* The descriptor to be polled, and the latest time at which something is due, as now() says it; or INFINITY. */
 struct pollfd held_poll(void);
 double held_due(void);
 /* Looks at those that have sent more or have ended, if the poll says that there are such; and have lived so long. */

@@ -1,4 +1,4 @@
-/* How a process is judged by what is known of it: rows, and which of them applies. */
+/* How a process is judged by the facts about it: rows, and which of them applies. */
 #ifndef ASANCOL_RUN_JUDGEMENT_ROWS_H
 #define ASANCOL_RUN_JUDGEMENT_ROWS_H
 

@@ -38,7 +38,7 @@ void keep_begin(const char *path)
         fail(OWN_FAILURE, "--keep", "there is no tee on the path");
 }
 
-/* The last part of the program's name, without what is awkward in a file's name. */
+/* The last part of the program's name, without characters that are awkward in a file's name. */
 static void put_program(char *room, size_t size, const char *name)
 {
     const char *slash = strrchr(name, '/');
@@ -140,7 +140,7 @@ int keep_start(struct segment *segment)
     return -1;
 }
 
-/* Copies what is no hole, and then makes the file as long as the other. */
+/* Copies everything except holes, and then makes the file as long as the other. */
 static bool copy(int from, int to)
 {
     struct stat seen;
@@ -172,7 +172,7 @@ static int open_where(const char *trace, int flags)
     char path[PATH_MAX];
     snprintf(path, sizeof path, "%s.where", trace);
     if (flags & O_CREAT)
-        unlink(path); /* what is left from a trace that was removed */
+        unlink(path); /* the rest of a removed trace */
     return open(path, flags | O_CLOEXEC | O_NOFOLLOW | O_NONBLOCK, 0666);
 }
 

@@ -84,7 +84,7 @@ static void add_used_again(struct strings *texts)
         strings_add(texts, made(&line));
 }
 
-/* What was lowered for the run. */
+/* The lowered bounds of the run. */
 static void add_for_all(struct strings *texts, const struct options *options)
 {
     char *all;

@@ -16,9 +16,9 @@ struct modules {
 
 /* The most that are held. */
 void modules_allow(size_t most);
-/* Takes descriptors, which are closed here if they are of no use: what is no file, or what is held already. */
+/* Takes descriptors, which are closed here if they are useless: not files, or held already. */
 void modules_take(struct modules *modules, const int *descriptors, size_t count);
-/* Opens those of a map of modules that are not among them yet, as objects of dlopen, and are still what was loaded. */
+/* Opens those of a map of modules that are not among them yet, as objects of dlopen, and are still the loaded files. */
 void modules_find(struct modules *modules, const char *map);
 /* Copies of them, and how many there are. */
 size_t modules_copy(const struct modules *modules, int copies[SIDE_FILES]);

@@ -7,43 +7,43 @@
     "Runs COMMAND, and checks each process under it that was built with asancol-cc.\n" \
     "Status and time:\n" \
     "  --exitcode N             status if a report counts (99); 0: the command's\n" \
-    "  --incomplete-exitcode N  status if not everything was seen (98)\n" \
+    "  --incomplete-exitcode N  status if the run was incomplete (98)\n" \
     "  --nothing-exitcode N     status if nothing was recorded (98); 77: test skipped\n" \
-    "  --at-least N             how many processes have to be recorded (0)\n" \
+    "  --at-least N             fewest processes that must be recorded (0)\n" \
     "  --wait S                 seconds for processes that outlive COMMAND (5)\n" \
-    "  --timeout S              ends COMMAND after so many seconds\n" \
+    "  --timeout S              end COMMAND after S seconds\n" \
     "Output files:\n" \
     "  --json FILE              JSON lines, which asancol-report reads\n" \
     "  --sarif FILE             SARIF 2.1.0, for code scanning\n" \
     "  --junit FILE             JUnit XML: a test case for each run\n" \
     "  --codequality FILE       a Code Quality report of GitLab\n" \
     "  --html FILE              a page that needs no other file and no network\n" \
-    "  --keep DIR               keeps the traces of processes with reports\n" \
+    "  --keep DIR               keep the traces of processes with reports\n" \
     "Text:\n" \
-    "  --log-file FILE          where all lines go, not to standard error\n" \
-    "  --format FORM            whose text: asancol or asan (asancol)\n" \
+    "  --log-file FILE          write all lines here, not to standard error\n" \
+    "  --format FORM            text of reports: asancol or asan (asancol)\n" \
     "  --log-path PREFIX        write the text of asan to PREFIX.PID, too\n" \
-    "  --live                   reports of a process when it ends, not all at the end\n" \
-    "  --crashes                crashes and halts that a parent waited for, too\n" \
+    "  --live                   print reports when their process ends\n" \
+    "  --crashes                count crashes that a parent waited for, too\n" \
     "  --source-root DIR        show files under DIR by their paths from there\n" \
     "  --color WHEN             colors: auto, always or never (auto)\n" \
     "  --full-stacks            print all frames of a stack, and whole names\n" \
     "  --shadow                 print the shadow bytes round each bad byte\n" \
-    "  --unchecked HOW          what was not checked: list, no or error (list)\n" \
-    "  -q, --quiet              no line if all is clean\n" \
-    "  -v, --verbose            a line for each process\n" \
+    "  --unchecked HOW          unchecked code: list, no or error (list)\n" \
+    "  -q, --quiet              print nothing if all is clean\n" \
+    "  -v, --verbose            print a line for each process\n" \
     "Which reports count:\n" \
-    "  --leaks HOW              blocks that leak: summary, no or yes (summary)\n" \
+    "  --leaks HOW              leaks: summary, no or yes (summary)\n" \
     "  --suppressions FILE      reports that do not count; may be repeated\n" \
     "  --gen-suppressions       print with each report the line that suppresses it\n" \
     "  --baseline FILE          reports of this result of --json do not count\n" \
     "Checking and others:\n" \
-    "  --quarantine B           how many bytes of freed blocks are held (268435456)\n" \
-    "  --no-mismatches          malloc may be freed by delete, and so on\n" \
-    "  --full                   records each malloc and free, not those near faults\n" \
-    "  --preload                records modules of programs not built so\n" \
-    "  --memory B               how many bytes each checker may hold (no bound)\n" \
-    "  --limit N                how many events of a process are checked (16777216)\n" \
+    "  --quarantine B           bytes of freed blocks to hold (268435456)\n" \
+    "  --no-mismatches          allow a malloc to be freed by delete, and so on\n" \
+    "  --full                   record all mallocs and frees, not only near faults\n" \
+    "  --preload                record modules of plain programs, too\n" \
+    "  --memory B               most bytes that each checker may hold (no bound)\n" \
+    "  --limit N                most events of a process to check (16777216)\n" \
     "  -h, --help               print this help\n" \
     "  --version                print the name and the release\n" \
     "%p in a FILE is the process, %q{VAR} a variable. Status 125 to 127: no start.\n"

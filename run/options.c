@@ -453,7 +453,7 @@ static void take_from_outer(struct options *options)
     free(text);
 }
 
-/* What was given of this, for runs inside this one. */
+/* The given part of this, for runs inside this one. */
 static void note_for_inner(struct options *options)
 {
     static const char leaks[] = "--leaks", rules[] = "--suppressions";
@@ -492,7 +492,7 @@ struct options options_read(char **argv)
     }
     options.demands_leaks = options.leaks == LEAKS_YES;
     if (options.are_files)
-        unsetenv("ASANCOL_QUARANTINE"); /* it says nothing of what was recorded before */
+        unsetenv("ASANCOL_QUARANTINE"); /* it does not cover earlier recordings */
     else
         asan_take(&options);
     follow_recorder(&options);

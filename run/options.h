@@ -37,7 +37,7 @@ struct options {
     bool may_halt, allows_mismatches, allows_returns;
     struct strings asan_notes, asan_taken;
     bool demands_leaks; /* --leaks=yes was given: that wins */
-    const char *for_inner; /* what was given and holds for runs inside this one too: options, one a line; or null */
+    const char *for_inner; /* given options that hold for runs inside this one too: options, one a line; or null */
     struct strings check;   /* for asancol check */
     struct strings report;  /* for asancol-report, */
     int outputs[16];        /* and descriptors that it gets under their numbers: each output is at most one */

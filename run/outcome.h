@@ -24,7 +24,7 @@ struct outcome {
     uint64_t events, reports, left_out, stated, left_good;
     uint32_t findings;           /* places of which its recorder says that something is wrong there, */
     uint32_t leaks;              /* and those that leak, if leaks are summed up: then they are no findings */
-    uint64_t skipped;            /* enum side_skipped: of what was wanted */
+    uint64_t skipped;            /* enum side_skipped: of the wanted checks */
     uint64_t used_again;         /* how many bytes of blocks it had handed out when freed memory came again; or 0 */
     uint64_t quarantine;         /* how many bytes of freed blocks it holds */
     bool is_one, halts, is_lean; /* as it was set (struct side_settings) */

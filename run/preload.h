@@ -2,7 +2,7 @@
 #ifndef ASANCOL_RUN_PRELOAD_H
 #define ASANCOL_RUN_PRELOAD_H
 
-/* What LD_PRELOAD is for the command: the recorder, and what is there already. Fails if there is none. */
+/* The value of LD_PRELOAD for the command: the recorder, and its former value. Fails if there is none. */
 const char *preload_value(void);
 
 #endif

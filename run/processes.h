@@ -53,7 +53,7 @@ struct children {
     pid_t numbers[];
 };
 
-/* What is known of a process beside its segments. */
+/* Data on a process apart from its segments. */
 enum source {
     SOURCE_HUB,    /* it has connected, or left a trace in the folder of the run */
     SOURCE_FILES,  /* files alone: asancol-run has not run it */

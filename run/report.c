@@ -27,11 +27,11 @@
 
 /* A packet has at most 65,536 bytes. So much of it may be the arguments of the command. */
 enum { MAX_RUN_ARGV = 40000, MAX_PROCESS_ARGV = 24000, MAX_ARGUMENTS = 1000, MAX_LINES = 6000 };
-/* What is printed if asancol-report cannot run. */
+/* The lines printed if asancol-report cannot run. */
 enum { RAW_PROCESSES = 20, RAW_LINES = 20, RAW_BYTES = 8192 };
 
-/* What is sent. Most messages only say what a process has come to, and most runs send none: the text of such a one is
-   made when it is sent, of what is known then. */
+/* The messages. Most of them only say what a process has come to, and most runs send none: the text of such a one is
+   made when it is sent, from the data at that time. */
 struct parcel {
     char *text;
     size_t length;
@@ -118,7 +118,7 @@ static FILE *new_parcel(struct parcel **parcel)
     return must(open_memstream(&(*parcel)->text, &(*parcel)->length));
 }
 
-/* Its text is what was written to the file. */
+/* Its text is the content of the file. */
 static void close_parcel(FILE *text)
 {
     if (fclose(text) != 0)
@@ -222,7 +222,7 @@ static void put_file(FILE *to, const char *name, const char *path)
     json_text(to, path);
 }
 
-/* What is known of a process; and of its segments the one whose descriptors come with it, if that is not null. This
+/* Data on a process; and of its segments the one whose descriptors come with it, if that is not null. This
    many of these are files of modules. */
 static void put_process(FILE *to, struct process *process, const struct segment *segment, size_t files)
 {
@@ -313,7 +313,7 @@ static bool is_shown(const struct segment *segment)
     return outcome->reports > 0 || (has_more && segment->verdicts >= 0);
 }
 
-/* A message with what is to be seen of a segment. */
+/* A message with the data of a segment. */
 static void show(struct segment *segment)
 {
     struct parcel *parcel;

@@ -31,12 +31,12 @@ enum report_answer {
     ANSWER_NONE
 };
 
-/* The first message: what is run. */
+/* The first message: the command. */
 void report_begin(const struct options *options);
 /* A segment is done. The message takes its descriptors, if there is something to see in them. A segment of several
    without that has none. */
 void report_segment(struct segment *segment);
-/* What was said of a process has changed, or is known since all of its segments are. */
+/* The reported data of a process have changed, or is known since all of its segments are. */
 void report_again(struct process *process);
 
 /* How many descriptors wait to be sent. */

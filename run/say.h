@@ -30,7 +30,7 @@ const char *plural(uint64_t count, const char *end);
 /* Seconds since some moment. */
 double now(void);
 
-/* A line on the terminal that says what is waited for. It is erased before any other line. */
+/* A line on the terminal that says what the run waits for. It is erased before any other line. */
 void progress_allow(void);
 void progress(const char *form, ...) __attribute__((format(printf, 1, 2)));
 void progress_erase(void);

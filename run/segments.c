@@ -189,7 +189,7 @@ static bool is_seen(const struct segment *segment)
 
 #define BLAME(...) outcome_set(joined, INCOMPLETE, __VA_ARGS__)
 
-/* Says of the whole process what is wrong with one of its segments. */
+/* Blames the whole process for a flaw of one of its segments. */
 static void blame(struct outcome *joined, const struct segment *segment)
 {
     const struct outcome *outcome = &segment->outcome;
@@ -206,7 +206,7 @@ static void blame(struct outcome *joined, const struct segment *segment)
         BLAME("segment %" PRIu64 ": %.120s", segment->number + 1, outcome->why);
 }
 
-/* Says what is missing or was not seen of it; or answers false. */
+/* Names a missing or unseen part of it; or returns false. */
 static bool is_flawed(struct outcome *joined, const struct segment *front)
 {
     if (front->number > 0) {

@@ -1,5 +1,5 @@
 /* A process whose recording has reached the limit of events goes on in a further segment: a new connection or file,
-   with side memory that says which one it is. All of them are one process in what is printed. */
+   with side memory that says which one it is. All of them are one process in the output. */
 #ifndef ASANCOL_RUN_SEGMENTS_H
 #define ASANCOL_RUN_SEGMENTS_H
 

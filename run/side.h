@@ -21,7 +21,7 @@ const struct side *side_read(const char *path);
 uint64_t side_quarantine(const struct side *side);
 /* How many faults and findings are in its list. */
 uint32_t side_entries(const struct side *side);
-/* What was set for it. */
+/* Its settings. */
 struct side_settings side_settings(const struct side *side);
 /* Puts the numbers of the last children that it has forked, SIDE_CHILDREN at most, and answers how many. */
 size_t side_children(const struct side *side, pid_t *children);

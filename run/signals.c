@@ -18,7 +18,7 @@ static const int passed_on[] = {SIGINT, SIGTERM, SIGHUP, SIGQUIT, SIGUSR1, SIGUS
 static const int others[] = {SIGCHLD, SIGTSTP, SIGCONT};
 
 static sigset_t mask_before;
-static sigset_t ours; /* what is passed on, and was not ignored */
+static sigset_t ours; /* signals that are passed on, and were not ignored */
 static struct sigaction child_before;
 
 static void add_unless_ignored(sigset_t *set, int number)

@@ -5,7 +5,7 @@
 #include <stdbool.h>
 #include <sys/types.h>
 
-/* Blocks them, and answers the descriptor. What was ignored before stays so. */
+/* Blocks them, and returns the descriptor. Those ignored before stay ignored. */
 int signals_open(void);
 /* In the child that becomes the command: as it was before. */
 void signals_restore(void);

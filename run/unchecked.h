@@ -1,4 +1,4 @@
-/* What was not checked in the processes, by what their recorders say: each name once. */
+/* The unchecked code of the processes, as their recorders list it: each name once. */
 #ifndef ASANCOL_RUN_UNCHECKED_H
 #define ASANCOL_RUN_UNCHECKED_H
 

@@ -173,10 +173,10 @@ static unsigned fate_of(const struct segment *segment)
 static bool has_all(const struct segment *segment, unsigned fate)
 {
     uint32_t ending = segment->outcome.ending;
-    /* Who goes on with the next segment looks again for what was noted in this one. */
+    /* A thread that continues in the next segment searches again for the fault noted in this one. */
     if (ending != ENDING_SEGMENT && is_bad_missing(segment))
         return false;
-    /* What is good need not be there. */
+    /* Good events may be missing. */
     if (segment->outcome.is_closed_off && ending != ENDING_NONE && ending != ENDING_LOST)
         return (fate & CUT_OFF) && needed_of(segment) <= segment->outcome.events + 1;
     if (fate != NO_CLOSE)
@@ -429,7 +429,7 @@ static bool may_take_back(struct segment *segment)
     return tries_exec && !is_over(segment);
 }
 
-/* What is read from a file does not change any more; what is past the limit may still grow, and an event of a segment
+/* The data of a file do not change any more; the number past the limit may still grow, and an event of a segment
    may be left out as long as the process runs. How a process has died may be known only after its connection. */
 static bool is_settled(struct segment *segment, unsigned fate, unsigned facts)
 {

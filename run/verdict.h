@@ -15,7 +15,7 @@ bool verdict_is_clean(const struct segment *segment);
 bool verdict_is_at_end(const struct segment *segment);
 /* Reads what its checker has printed, and judges. The cause says why it was not checked; null: it was. */
 void verdict_read(struct segment *segment, const char *cause);
-/* Judges again what was not settled: how it ended, and how many events were left out. True if this has changed
+/* Judges the unsettled again: how it ended, and how many events were left out. True if this has changed
    something. */
 bool verdict_again(struct segment *segment);
 

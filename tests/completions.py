@@ -79,7 +79,7 @@ MISTAKES = [
     ("Group of asancol-report: Text\n", "", "--no-machines: no program has it"),
     (", asancol-report: Output files", ": Output files", "--json FILE: asancol-report has no such option"),
     ("Help: where all lines go", "# ", "--log-file FILE: it has no Help or no Page for asancol-run"),
-    ("Help: a line for each process", f"Help: {'x' * 54}",
+    ("Help: print a line for each process", f"Help: {'x' * 54}",
      "asancol-run: its help has 44 lines of at most 44, and 1 too wide"),
 ]
 

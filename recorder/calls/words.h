@@ -596,8 +596,8 @@ HELPER static bool has_long_word(char *const *words, int first, int end, struct 
     if (first != INT_MAX && has_long_word(words, first, *LIBRARY->optind, call))                                       \
     reads_options(options, call)
 
-/* Addresses after calls, without the first, which is the check's own. So there has to be room for one more: what is
-   more than that lacks its last one. */
+/* Addresses after calls, without the first, which is the check's own. So there must be room for one more; a longer
+   stack lacks its last one. */
 enum { MAX_CALLERS = 256 };
 
 HELPER static int give_callers(void **to, void *const *found, int count)

@@ -2,14 +2,14 @@
 
    new      from `top` on. It has no memory, and its bytes are zeros.
    taken    it is a slab, or in the run of a block.
-   waiting  it is in a free run, and is stale: it has the memory and the bytes of what was there.
+   waiting  it is in a free run, and is stale: it has its memory and its old bytes.
    back     it is in a free run, and its memory was given back to the system. Its bytes are zeros.
 
    To give memory back takes a call of the system, and to use it again a fault for each page. So it waits for one period
    at least and two at most, in which most of it is taken again. What still waits then is given back with one call for
    each row of such units. No thread does that: the calls of the allocator look at the clock.
 
-   What waits is no more than MOST_WAITING, and with what is taken no more than EXTRA beyond the most that was ever
+   Waiting units are at most MOST_WAITING, and with the taken ones at most EXTRA beyond the most that was ever
    taken. Before one of these is exceeded, or if the system has no more memory, all of it is given back. A run of
    AT_ONCE units does not wait.
 

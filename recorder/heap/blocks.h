@@ -1,8 +1,9 @@
 /* What the parts of the allocator share: its state, and blocks by the notes on them (arena.h).
 
-   **Two ways.** What is recorded one by one is *in order*: one lock, free slots that are used again, and a quarantine
-   that counts as the checker does (quarantine.c). Else the allocator *goes forward*: no address is handed out twice,
-   and each thread has a shard of its own (shards.c). It begins so, and once it is in order it stays so (heap_order).
+   **Two ways.** If all are recorded, the allocator is *in order*: one lock, free slots that are used again, and a
+   quarantine that counts as the checker does (quarantine.c). Else the allocator *goes forward*: no address is handed
+   out twice, and each thread has a shard of its own (shards.c). It begins so, and once it is in order it stays so
+   (heap_order).
 
    **Who is in here** (entering.c) has its own shard alone, or all. All is: the gate's lock, and no thread in a shard.
    Who is in a shard never waits for the gate. Under the lock `central` is what all shards take from and give to; who
@@ -50,8 +51,8 @@ enum { MOST_RETIRED = 8 };
 /* What one thread allocates from. It alone is in there, or who has all. */
 struct shard {
     _Alignas(128) _Atomic bool is_busy;
-    /* How many mallocs and frees were left out here, and how many of these are counted beside the stream. The sum of
-       what is added there is right also if two do it at once, since each adds what it finds more, or less. */
+    /* How many mallocs and frees were left out here, and how many of these are counted beside the stream. The sum is
+       right even if two threads add at once, since each adds what it finds more, or less. */
     _Atomic uint64_t left_good, left_good_noted;
     struct unit_span span;
     uint32_t retired_count;
@@ -153,7 +154,7 @@ static inline bool is_used(uint32_t unit)
 }
 
 /* The block whose slot or run has this address, and where that begins; or null. Another shard may be changing the
-   notes, and then nobody may believe what is answered: but of a block that the thread has, or had, it is right. */
+   notes, and then the answer is unreliable, except for a block that the thread has, or had. */
 static inline struct block *block_around(uintptr_t address, uintptr_t *start)
 {
     if (!arena_is_found())

@@ -12,8 +12,8 @@ void retiring_leave(uint32_t unit, uint32_t count);
 /* What waits in a shard is given back. */
 void retiring_flush(struct shard *shard);
 
-/* Units that are retired and have notes, which may be used again, as a run or for a slab: so many, or `longer` ones if
-   there are none; or 0. Under central. */
+/* Units that are retired and have notes, which may be used again, as a run or for a slab: this many, or `longer` ones
+   if there are none; or 0. Under central. */
 uint32_t retiring_take_back(uint32_t count, bool longer);
 /* These count as retired no more: a slab or a run, or what has no notes. Under central. */
 void retiring_undo(uint32_t unit);

@@ -91,8 +91,8 @@ static uint32_t snapshot_unit(struct snapshot *snapshot, uint32_t unit)
     return count;
 }
 
-/* What is a block, live or held, becomes that after it; released memory was redzone for the checker, and is bad as
-   before. */
+/* A block, live or held, is stated afterwards; released memory was redzone for the checker, and is bad as before.
+   */
 static void snapshot_memory(struct snapshot *snapshot)
 {
     for (uint32_t unit = 0; unit < heap.poisoned;)

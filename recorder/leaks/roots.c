@@ -205,8 +205,8 @@ static void mark_thread(const struct stopped_thread *thread)
 /* Blocks that are roots. */
 
 /* What the loader has allocated is reachable, as with LeakSanitizer: it is thread-local memory of modules, which only
-   the loader knows how to find. So is a block of which nobody knows where it was allocated: it came before all
-   others. */
+   the loader knows how to find. So is a block of unknown origin: it came before all others.
+   */
 static void mark_if_root(const struct block *block, void *unused)
 {
     (void)unused;

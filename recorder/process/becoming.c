@@ -97,7 +97,7 @@ static const char *why_unseen(const struct target *target, const char *path)
     return has_hub ? NEVER_BEGAN : "it was started without ASANCOL_HUB in its environment, and did not find the run";
 }
 
-/* The file if it was built so, or null: with why it may never connect. */
+/* The file if it was built with the recorder, or null: with why it may never connect. */
 static const char *expected_in(const struct target *target, const char *path, const char **why)
 {
     enum built built = path != NULL ? built_by(path) : BUILT_BY_OTHERS;

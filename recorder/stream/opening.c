@@ -101,7 +101,7 @@ static void say_other_name(const char *asked)
     recorder_say("the trace goes to ", locked.trace.path, why);
 }
 
-/* What is stated of one access has to fit into a segment, with what other threads record there meanwhile. */
+/* The statements of one access must fit into a segment, with the records of other threads meanwhile. */
 enum { LEAST_LEAN_LIMIT = 16 };
 
 /* Before the first side memory, which says so. */

@@ -166,8 +166,8 @@ static inline bool is_lean(void)
     return atomic_load_explicit(&lean_is_on, memory_order_relaxed);
 }
 
-/* How many bytes of freed blocks the checker holds if the process has this bound. In lean recording it is stated what
-   is freed, whatever the bound: so it is what a checker holds that is told nothing, or more. */
+/* How many bytes of freed blocks the checker holds if the process has this bound. In lean recording frees are stated,
+   whatever the bound: so it is the default of a checker, or more. */
 static inline uint64_t held_by_checker(uint64_t bound)
 {
     return is_lean() && bound < QUARANTINE_BOUND ? QUARANTINE_BOUND : bound;

@@ -93,7 +93,7 @@ static bool is_known(const char *name)
 enum { BY_CALL = 1, OTHERWISE = 2 };
 
 /* For each symbol of a table. An address that is taken stays that of the old name: all parts of a process have the same
-   one for it, also those that were not compiled so. Tables of virtual functions have no such identity. */
+   one for it, also those compiled otherwise. Tables of virtual functions have no such identity. */
 static unsigned char *how_asked(struct view view, size_t table, size_t count)
 {
     unsigned char *how = must(calloc(count + 1, 1));

@@ -143,7 +143,7 @@ struct parts {
     bool has_own_names; /* functions or variables whose names are not rustc's */
     bool is_rust_own;   /* a crate of Rust's library */
     size_t files;  /* sources that the table of symbols names */
-    size_t marked; /* those of them that were compiled so */
+    size_t marked; /* those of them compiled this way */
     size_t whole;  /* and have all checks */
 };
 
@@ -244,7 +244,7 @@ static bool has_loaded_text(struct view view, const char *text)
 
 /* What matters of a file before the link. */
 struct look {
-    bool is_marked; /* some of it was compiled so */
+    bool is_marked; /* some of it was compiled this way */
     bool is_lto;
 };
 

@@ -6,16 +6,16 @@
 
 #include "wrapper/view.h"
 
-/* What makes a compiler put a call before each access. With -frecord-gcc-switches it stands in each object that was
-   compiled so, and so tells these from others. */
+/* What makes a compiler put a call before each access. With -frecord-gcc-switches it is in each object compiled this
+   way, which distinguishes them. */
 #define COMPILED_SO "-fsanitize=kernel-address"
 
 struct linked {
-    bool has_marked; /* an object that was compiled so, or what GCC compiles so at the link */
+    bool has_marked; /* an object compiled this way, or one that GCC so compiles at the link */
     bool has_lto;    /* one that is compiled when it is linked */
     bool has_bitcode;   /* the same, of Clang */
     bool may_open;      /* one that may open libraries */
-    char *unmarked_lto; /* the first of these that was not compiled so, or null */
+    char *unmarked_lto; /* the first of these that was compiled otherwise, or null */
 };
 
 /* What an object is. */

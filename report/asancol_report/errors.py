@@ -6,7 +6,7 @@ CLEAN, COUNTS, REFUSED, INCOMPLETE, FAILED = range(5)
 
 
 class Refused(Exception):
-    """What was asked for makes no sense: the command line, or a file that goes with it."""
+    """The request makes no sense: the command line, or a file that goes with it."""
 
 
 class Broken(Exception):

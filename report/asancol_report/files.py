@@ -25,7 +25,8 @@ def descriptor_of(path: str) -> Optional[int]:
 
 
 def open_as_it_is(path: str) -> int:
-    """Opens what is no file to be replaced. Of a descriptor a copy is taken: what somebody has written there stays."""
+    """Opens an output that is not a file to be replaced. Of a descriptor a copy is taken: what somebody has written
+    there stays."""
     descriptor = descriptor_of(path)
     return os.open(path, os.O_WRONLY | os.O_CLOEXEC) if descriptor is None else os.dup(descriptor)
 

@@ -34,7 +34,7 @@ LANGUAGE_LIBRARY = re.compile(r"/(?:ld-linux[^/]*|lib(?:c|m|pthread|dl|rt|gcc_s|
 
 
 class Frame(NamedTuple):
-    """A call that was running. What is not known is empty or 0."""
+    """A call that was running. Unknown parts are empty or 0."""
 
     module: str = ""
     offset: int = 0  # from where the module begins in memory; without a module the address

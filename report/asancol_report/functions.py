@@ -17,7 +17,7 @@ STANDARD_OF_RUST = ("alloc::", "core::", "std::")
 
 
 def parts(name: str) -> Iterator[Tuple[str, bool]]:
-    """Yields a name in pieces: arguments of templates with their brackets, and what is between them."""
+    """Yields a name in pieces: arguments of templates with their brackets, and the text between them."""
     at = start = depth = 0
     while at < len(name):
         operator = OPERATOR.match(name, at)

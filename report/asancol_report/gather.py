@@ -1,7 +1,7 @@
 """From the verdicts and the side memory of processes to findings.
 
 What comes of one process is grouped, and groups that are the same in several processes of a run are put together before
-any symbol is looked up. So what is held grows with the places in the program, and not with the lines.
+any symbol is looked up. So memory grows with the places in the program, and not with the lines.
 """
 
 from __future__ import annotations
@@ -78,7 +78,7 @@ class Crashed(NamedTuple):
 
 
 class Came:
-    """What was taken in last: findings as their process has them, and processes that a signal has ended."""
+    """The latest input: findings as their process has them, and processes that a signal has ended."""
 
     __slots__ = ("findings", "processes")
 
@@ -187,8 +187,8 @@ class Gatherer:
         return Places(place, allocated, freed, function)
 
     def calls(self, side: Side, after_calls: Tuple[int, ...], has_names: bool = True) -> Calls:
-        """Returns the places of calls, from the addresses after them. What is no call is no caller, and ends them: code
-        without frame pointers may have led there."""
+        """Returns the places of calls, from the addresses after them. The first address that no call precedes ends
+        them: code without frame pointers may have led there."""
         places: List[CodeAddress] = []
         for address in after_calls:
             place = self.place(side, address, has_names)
@@ -225,7 +225,7 @@ class Gatherer:
         return sighting
 
     def finish(self) -> List[Finding]:
-        """Looks up the symbols of all that was taken in, adds it to the results, and returns what is new there."""
+        """Looks up the symbols of all that was taken in, adds it to the results, and returns the new ones."""
         self.symbols.look_up()
         new = []
         for sighting in sorted(self.sightings.values(), key=lambda it: time_of(it.first)):
@@ -237,7 +237,7 @@ class Gatherer:
             before = self.seen_in.get(id(finding), 0)
             self.seen_in[id(finding)] = before | sighting.processes
             added = bits_of(sighting.processes & ~before)
-            times = sighting.count or int(known is None)  # pieces alone are none, if they are pieces of what is known
+            times = sighting.count or int(known is None)  # pieces alone are none, if they are pieces of a known access
             first = sighting.first._replace(times=times, processes=added, lost=sighting.lost)
             self.results.add(finding, self.run, first)
             if self.results.has_log:

@@ -1,7 +1,7 @@
 """The report as one page that needs no other file and no network.
 
 All entries are in the page as text, so that it can be read without scripts, as some servers show it. The script of the
-page filters and sorts what is there.
+page filters and sorts the entries.
 """
 
 from __future__ import annotations
@@ -198,7 +198,7 @@ class Page:
 
     @staticmethod
     def what_is(finding: Finding) -> str:
-        """Returns what is wrong, in sentences."""
+        """Returns the mistake, in sentences."""
         text = what_is(finding.class_name) + "."
         if finding.by_recorder:
             return f"{text} The recorder found this by itself; the checker did not judge it."
@@ -253,7 +253,7 @@ class Page:
         return tag("p", " ".join(tag("span", part) for part in parts), class_="foot")
 
     def processes_text(self) -> str:
-        """Returns what is to be said of processes, for the head under which they are folded away."""
+        """Returns a summary of the processes, for the heading under which they are folded away."""
         totals = self.results.totals()
         crashed = totals.crashed + totals.crashes_suppressed + totals.crashes_known + totals.crashes_awaited
         counts = ((totals.incomplete, "incomplete"), (totals.abrupt, "ended abruptly"), (crashed, "crashed"))
@@ -315,7 +315,7 @@ def write(results: Results, out: TextIO, options: Options, sources: Sources) -> 
     with open(PAGE, encoding="utf-8") as file:
         page = file.read()
     parts = Page(results, sources, os.path.realpath(options.value("--source-root", "."))).parts()
-    # What is put in is not looked at again: a path may read like a mark of the page.
+    # Inserted text is not searched again: a path may read like a mark of the page.
     for position, piece in enumerate(re.split(r"<!--([A-Z]+)-->", page)):
         if position % 2 == 0:
             out.write(piece)

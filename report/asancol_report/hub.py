@@ -107,7 +107,7 @@ class Hub:
         self.gatherer = self.new_gatherer(self.number)
 
     def take_process(self, entry: Dict[str, object], descriptors: List[int]) -> None:
-        """Takes in what is known of a process by now. A later packet replaces what an earlier one says, and may bring
+        """Takes in the data of a process so far. A later packet replaces what an earlier one says, and may bring
         the reports of another segment."""
         process = self.known(process_of(entry, self.commands))
         segment = number_of(entry.get("segment"))
@@ -214,7 +214,7 @@ class Files(Hub):
                 raise Broken(f"{self.trace}: {process.why}")
 
     def end(self, entry: Dict[str, object]) -> None:
-        """Takes in what was not checked. What else a run says at its end is not known of files."""
+        """Takes in the unchecked code. What else a run says at its end is not known of files."""
         ended = run_of(entry)
         run = self.results.runs[self.number]
         run.unchecked, run.unchecked_more = ended.unchecked, ended.unchecked_more

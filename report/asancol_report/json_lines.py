@@ -164,7 +164,7 @@ def thread_entry(thread: Thread) -> Entry:
 
 
 def finding_entry(finding: Finding, lost: Leaks) -> Entry:
-    """Returns what is the same of a finding in all runs, except what a leak has lost in one."""
+    """Returns the part of a finding that is the same in all runs, except the bytes that a leak has lost in one."""
     entry: Entry = {
         "fingerprint": finding.fingerprint, "class": finding.class_name,
         "access": finding.access, "size": finding.size, "address": f"{finding.address:x}",
@@ -237,7 +237,7 @@ def write(results: Results, out: TextIO, *_: object) -> None:
         out.write(line + "\n")
 
 
-# Reading. What has another type than it should is as if it were missing; what is missing has a default.
+# Reading. What has another type than it should is as if it were missing; missing values have defaults.
 
 def text_of(value: object) -> str:
     return value if isinstance(value, str) else ""
@@ -478,7 +478,7 @@ class Reader:
         """Takes in a line of a type that a later release has."""
 
     def look_over(self) -> None:
-        """Compares the runs that have come with what they say themselves, and notes what is missing."""
+        """Compares the runs that have come with what they say themselves, and notes missing ones."""
         for number, wanted in self.wanted.items():
             found = Counts(len(self.runs), *self.found[number])
             for has, should, one in zip(found, wanted, ("run", "process", "finding")):
@@ -536,7 +536,7 @@ class Reader:
 
 
 def read(path: str, results: Results, is_listed: bool = False) -> str:
-    """Reads a file, or standard input for `-`, into results. Returns what is missing in it, or nothing. Broken, if it
+    """Reads a file, or standard input for `-`, into results. Returns a text on missing parts, or nothing. Broken, if it
     can't be read; what came before is in the results. One that a folder lists has to be a regular file."""
     is_standard = path == "-" and not is_listed
     name = "standard input" if is_standard else path

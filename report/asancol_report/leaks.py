@@ -68,7 +68,7 @@ class Lost:
 
 
 class Sum:
-    """The leaks of a run, by their class and by what is the same of those at one place."""
+    """The leaks of a run, by their class and by the properties shared at one place."""
 
     def __init__(self) -> None:
         self.lost: Dict[Tuple[str, Hashable], Lost] = {}

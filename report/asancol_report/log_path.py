@@ -37,7 +37,7 @@ class LogPath:
             self.write_crash(gatherer.run, process)
 
     def take_others(self) -> None:
-        """Writes what was read of earlier results. Broken, if that fails."""
+        """Writes the reports read from earlier results. Broken, if that fails."""
         for number, run in enumerate(self.results.runs):
             if number in self.live:
                 continue

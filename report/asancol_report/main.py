@@ -107,8 +107,8 @@ class Report:
         return self.status()
 
     def read_rules(self) -> None:
-        """Reads what does not count. In a run that goes on, a mistake there must not lose its reports: what is wrong is
-        said at once, and after the summary what was not used."""
+        """Reads what does not count. In a run that goes on, a mistake there must not lose its reports: the mistake is
+        printed at once, and the unused files after the summary."""
         for path in self.options.suppressions:
             self.read_rule(self.read_suppressions, path)
         if self.options.value("--baseline"):
@@ -125,7 +125,7 @@ class Report:
             self.note_unused(f"{text}; it was not used", path)
 
     def note_unused(self, text: str, what: str) -> None:
-        """Notes what was not used. What is wrong with it was said: the text says no more than that."""
+        """Notes unused files. The mistake in them was printed: the text does not repeat it."""
         self.results.notes[text] = None
         self.text.short[text] = f"{what} was not used"
 
@@ -235,7 +235,7 @@ class Report:
             self.results.runs[gatherer.run].cut = str(error)
 
     def come(self, gatherer: Gatherer) -> None:
-        """Prints what is new, if it is to be printed at once."""
+        """Prints new places, if they are to be printed at once."""
         if not self.is_live and self.log is None:
             return
         new = gatherer.finish()

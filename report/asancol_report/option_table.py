@@ -12,26 +12,26 @@ Output files:
   --codequality FILE   a Code Quality report of GitLab
   --html FILE          a page that needs no other file and no network
 Text:
-  --format FORM        whose text: asancol or asan (asancol)
+  --format FORM        text of reports: asancol or asan (asancol)
   --log-path PREFIX    write the text of asan to PREFIX.PID, too
   --live               print the first report of each place when it comes
-  --crashes            crashes and halts that a parent waited for, too
+  --crashes            count crashes that a parent waited for, too
   --source-root DIR    show files under DIR by their paths from there
   --color WHEN         colors: auto, always or never (auto)
   --full-stacks        print all frames of a stack, and whole names
   --shadow             print the shadow bytes round each bad byte
-  --unchecked HOW      what was not checked: list, no or error (list)
-  --no-machines        leave out names of machines, and when runs were
-  -q, --quiet          no line if all is clean
+  --unchecked HOW      unchecked code: list, no or error (list)
+  --no-machines        omit names of machines and times of runs
+  -q, --quiet          print nothing if all is clean
 Which reports count:
-  --leaks HOW          blocks that leak: summary, no or yes (summary)
+  --leaks HOW          leaks: summary, no or yes (summary)
   --suppressions FILE  reports that do not count; may be repeated
   --gen-suppressions   print with each report the line that suppresses it
   --baseline FILE      reports of this result of --json do not count
 Traces:
   --trace              the files are traces
-  --quarantine B       how many bytes of freed blocks are held (as recorded)
-  --memory B           how many bytes each checker may hold (no bound)
+  --quarantine B       bytes of freed blocks to hold (as recorded)
+  --memory B           most bytes that each checker may hold (no bound)
   --limit N            how many events of a trace are checked (16777216)
 Others:
   --run                read from asancol-run on standard input

@@ -107,7 +107,7 @@ def look_over(options: Options) -> None:
 
 
 def look_for_losses(options: Options) -> None:
-    """Refuses to write over what is read, or what another output writes. A result may be renewed in its own file."""
+    """Refuses to overwrite an input, or another output. A result may be renewed in its own file."""
     results = [] if options.switches["--trace"] else [*options.files, options.value("--baseline")]
     others = [*options.suppressions, *options.files, options.value("--baseline")]
     written: Dict[str, str] = {}

@@ -153,7 +153,7 @@ class Results:
         self.unused: List[str] = []  # suppressions that matched nothing
         self.gone: Optional[int] = None  # places of the baseline that were not seen
         self.are_traces = False
-        self.lists_unchecked = True  # what was not checked is said
+        self.lists_unchecked = True  # the unchecked code is listed
         self.demands_checked = False  # and counts as not seen
         # Where the modules of processes lay, by run and process: of those that have a report or a crash, if the text
         # has addresses.
@@ -318,7 +318,7 @@ class Results:
             self.demands_checked and self.unchecked_count())
 
     def unchecked(self) -> List[str]:
-        """Returns the names of what was not checked, in their order, without libraries of the system."""
+        """Returns the names of unchecked code, in their order, without libraries of the system."""
         return sorted({name for run in self.runs for name in run.unchecked})
 
     def system_count(self) -> int:

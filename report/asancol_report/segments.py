@@ -92,7 +92,7 @@ class Traces:
         self.processes: List[Dict[int, str]] = []  # the paths, by the numbers of the segments
         self.by_key: Dict[Key, List[Dict[int, str]]] = {}
         self.taken: Set[str] = set()
-        self.names: Dict[str, Dict[Family, List[str]]] = {}  # what is in folders
+        self.names: Dict[str, Dict[Family, List[str]]] = {}  # the files in folders
 
     def add(self, path: str) -> None:
         """Takes in a trace, and those of the same process that lie beside it."""
@@ -142,7 +142,7 @@ class Traces:
 
 
 def processes_in(paths: List[str]) -> List[List[Segment]]:
-    """Returns the traces of each process, in the order in which they were named first. What was named twice counts
+    """Returns the traces of each process, in the order in which they were named first. A name given twice counts
     once."""
     traces = Traces()
     for path in paths:

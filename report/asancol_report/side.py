@@ -1,4 +1,4 @@
-"""The side memory of a recorded process: its module map, and what was seen at each bad event.
+"""The side memory of a recorded process: its module map, and the data on each bad event.
 
 The layout is `struct side` of common/format.h, and common/README.md says it in words. All of it is the recorded
 process's own word, and it may write there while this reads. So each number is checked before it is used, and a side
@@ -66,7 +66,7 @@ FAULTS_PART = 1 << 10
 
 
 def trouble_of(head: bytes) -> str:
-    """Returns what is wrong with a side file of which this is all before its modules; nothing, if it can be read."""
+    """Returns the flaw of a side file of which this is all before its modules; nothing, if it can be read."""
     if head.startswith(HEADER) and len(head) == MAPS_AT:
         return ""
     if head.startswith(HEADER) or HEADER.startswith(head):
@@ -108,7 +108,7 @@ class Thread(NamedTuple):
 
 
 class Fault(NamedTuple):
-    """What the recorder saw when an access or a free was bad. What is not known is empty or 0."""
+    """The recorder's data on a bad access or free. Unknown parts are empty or 0."""
 
     place: Calls
     block: int  # 0: none is near
@@ -227,7 +227,7 @@ class Side:
         return [os.fsdecode(word) for word in text.split(b"\0\0")[0].split(b"\0")] if text.strip(b"\0") else []
 
     def unchecked(self) -> List[str]:
-        """Returns what was not checked: names, libraries of the system after a slash, `+N` for N more."""
+        """Returns the unchecked code: names, libraries of the system after a slash, `+N` for N more."""
         return [it for it in self.unchecked_lines() if not it.startswith("!")]
 
     def suppressions(self) -> List[str]:

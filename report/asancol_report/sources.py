@@ -62,7 +62,7 @@ class Sources:
 
     def caret(self, path: str, number: int, column: int, built: int) -> Optional[int]:
         """Returns where a column is in the text of a line, from 1; 0 if that is not known. None, if the file is newer
-        than what was built of it, at a time in nanoseconds: then its lines may be others."""
+        than the program built from it, at a time in nanoseconds: then its lines may be others."""
         lines = self.lines(path)
         if not 0 < number <= len(lines) or self.changed[path] > built:
             return None

@@ -14,7 +14,8 @@ from .words import printable, stable_path, UNPRINTABLE
 
 # What a pattern is compared with.
 FUNCTION, SOURCE, OBJECT = "fun", "src", "obj"
-# Lines of the sanitizers for calls of the C library: by the library that calls it, by any frame, and by what is called.
+# Lines of the sanitizers for calls of the C library: by the library that calls it, by any frame, and by the called
+# function.
 CALLED_FROM, VIA_OBJECT, VIA_FUNCTION = "called_from_lib", "interceptor_via_lib", "interceptor_via_fun"
 CALL = "interceptor_name"
 OF_CALLS = (CALLED_FROM, VIA_OBJECT, VIA_FUNCTION, CALL)
@@ -29,7 +30,8 @@ FORMS = ("CLASS:PATTERN, *:PATTERN, fun:PATTERN, src:PATTERN, obj:PATTERN, calle
 
 
 class Rule:
-    """A line of a file of suppressions: a class or what is looked at, and a pattern. It matches if any frame does."""
+    """A line of a file of suppressions: a class or the examined property, and a pattern. It matches if any frame
+    does."""
 
     def __init__(self, line: str) -> None:
         self.line = line
@@ -118,7 +120,7 @@ PRINTED = "suppression:"
 
 
 class Wrong(NamedTuple):
-    """A line that can't be read: its place, and what is wrong."""
+    """A line that can't be read: its place, and its mistake."""
 
     place: str
     text: str

@@ -43,7 +43,7 @@ def on_path(name: str) -> Optional[str]:
 
 
 def find_tool() -> Tuple[Optional[str], str]:
-    """Returns the path of a symbolizer, or none and what is missing."""
+    """Returns the path of a symbolizer, or none and the missing tool."""
     named = os.environ.get("ASANCOL_SYMBOLIZER")
     if named:
         return on_path(named), f"{named}, which ASANCOL_SYMBOLIZER names, was not found"
@@ -69,7 +69,7 @@ def as_written(function: str, file: str) -> str:
 
 
 def name_of(function: object, file: object, line: object, column: object) -> Name:
-    """Returns a name of what a tool has answered. What is missing there is empty or 0."""
+    """Returns a name from a tool's answer. Missing parts are empty or 0."""
     source = file if isinstance(file, str) else ""
     return Name(
         as_written(function[:MAX_WORD_LENGTH], source) if isinstance(function, str) and function != "??" else "",

@@ -231,7 +231,7 @@ class Text:
 
 
 def variables_text(block: Optional[Block], bad: int) -> Iterator[str]:
-    """What is in the frame of a variable, and where the bad byte is in it: as AddressSanitizer has it."""
+    """The contents of a variable's frame, and the position of the bad byte in it: as AddressSanitizer has it."""
     if block is None or not block.variables or not block.frame:
         return
     offset, meant = bad - block.frame, block.address - block.frame
@@ -287,7 +287,7 @@ def seen_text(results: Results, finding: Finding) -> str:
 
 
 def awaited_text(count: int) -> str:
-    """Returns what is said of crashes that do not count, since parents have waited for them. asancol-run says the same
+    """Returns the line about crashes that do not count, since parents have waited for them. asancol-run says the same
     of one run (`say_awaited`)."""
     how, whom = ("a signal that its parent", "it") if count == 1 else ("signals that their parents", "them")
     return f"{plural(count, 'process')} ended by {how} waited for; --crashes shows {whom}"
@@ -333,7 +333,7 @@ def totals_line(results: Results) -> str:
 
 
 def unchecked_text(results: Results, most: int = MAX_UNCHECKED_SAID) -> str:
-    """Returns the first names of what was not checked, how many more there are, and how many libraries of the system.
+    """Returns the first names of unchecked code, how many more there are, and how many libraries of the system.
     asancol-run says the same of one run (`unchecked_say`)."""
     names = results.unchecked()[:most]
     more, libraries = results.unchecked_count() - len(names), results.system_count()

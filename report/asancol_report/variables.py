@@ -28,7 +28,7 @@ class Variable(NamedTuple):
 
 
 def variables_of(text: str) -> Tuple[Variable, ...]:
-    """Returns the variables of a frame, from "N OFFSET SIZE LENGTH NAME[:LINE] ..". What is cut there ends them."""
+    """Returns the variables of a frame, from "N OFFSET SIZE LENGTH NAME[:LINE] ..". A truncated one ends them."""
     rest = os.fsencode(text)
     count = COUNT.match(rest)
     at = count.end() if count else 0

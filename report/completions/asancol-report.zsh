@@ -10,24 +10,24 @@ _arguments -S \
     '--junit=[JUnit XML: a test case for each run]:file:_files' \
     '--codequality=[a Code Quality report of GitLab]:file:_files' \
     '--html=[a page that needs no other file and no network]:file:_files' \
-    '--format=[whose text: asancol or asan]:form:(asancol asan)' \
+    '--format=[text of reports: asancol or asan]:form:(asancol asan)' \
     '--log-path=[write the text of asan to PREFIX.PID, too]:file:_files' \
     '--live[print the first report of each place when it comes]' \
-    '--crashes[crashes and halts that a parent waited for, too]' \
+    '--crashes[count crashes that a parent waited for, too]' \
     '--source-root=[show files under DIR by their paths from there]:folder:_files -/' \
     '--color=[colors: auto, always or never]:when:(auto always never)' \
     '--full-stacks[print all frames of a stack, and whole names]' \
     '--shadow[print the shadow bytes round each bad byte]' \
-    '--unchecked=[what was not checked: list, no or error]:how:(list no error)' \
-    '--no-machines[leave out names of machines, and when runs were]' \
-    '(-q --quiet)'{-q,--quiet}'[no line if all is clean]' \
-    '--leaks=[blocks that leak: summary, no or yes]:how:(summary no yes)' \
+    '--unchecked=[unchecked code: list, no or error]:how:(list no error)' \
+    '--no-machines[omit names of machines and times of runs]' \
+    '(-q --quiet)'{-q,--quiet}'[print nothing if all is clean]' \
+    '--leaks=[leaks: summary, no or yes]:how:(summary no yes)' \
     '*--suppressions=[reports that do not count]:file:_files' \
     '--gen-suppressions[print with each report the line that suppresses it]' \
     '--baseline=[reports of this result of --json do not count]:file:_files -g "*.jsonl(-.)"' \
     '--trace[the files are traces]' \
-    '--quarantine=[how many bytes of freed blocks are held]:number (as recorded)' \
-    '--memory=[how many bytes each checker may hold]:number (no bound)' \
+    '--quarantine=[bytes of freed blocks to hold]:number (as recorded)' \
+    '--memory=[most bytes that each checker may hold]:number (no bound)' \
     '--limit=[how many events of a trace are checked]:number (16777216)' \
     '--run[read from asancol-run on standard input]' \
     '(- *)'{-h,--help}'[print this help]' \

@@ -5,39 +5,39 @@
 _arguments -S \
     '(--exitcode --error-exitcode)--exitcode=[status if a report counts]:number (99)' \
     '(--exitcode --error-exitcode)--error-exitcode=[status if a report counts]:number (99)' \
-    '--incomplete-exitcode=[status if not everything was seen]:number (98)' \
+    '--incomplete-exitcode=[status if the run was incomplete]:number (98)' \
     '--nothing-exitcode=[status if nothing was recorded]:number (98)' \
-    '--at-least=[how many processes have to be recorded]:number (0)' \
+    '--at-least=[fewest processes that must be recorded]:number (0)' \
     '--wait=[seconds for processes that outlive COMMAND]:seconds (5)' \
-    '--timeout=[ends COMMAND after so many seconds]:seconds' \
+    '--timeout=[end COMMAND after S seconds]:seconds' \
     '--json=[JSON lines, which asancol-report reads]:file:_files' \
     '--sarif=[SARIF 2.1.0, for code scanning]:file:_files' \
     '--junit=[JUnit XML: a test case for each run]:file:_files' \
     '--codequality=[a Code Quality report of GitLab]:file:_files' \
     '--html=[a page that needs no other file and no network]:file:_files' \
-    '--keep=[keeps the traces of processes with reports]:folder:_files -/' \
-    '--log-file=[where all lines go, not to standard error]:file:_files' \
-    '--format=[whose text: asancol or asan]:form:(asancol asan)' \
+    '--keep=[keep the traces of processes with reports]:folder:_files -/' \
+    '--log-file=[write all lines here, not to standard error]:file:_files' \
+    '--format=[text of reports: asancol or asan]:form:(asancol asan)' \
     '--log-path=[write the text of asan to PREFIX.PID, too]:file:_files' \
-    '--live[reports of a process when it ends, not all at the end]' \
-    '--crashes[crashes and halts that a parent waited for, too]' \
+    '--live[print reports when their process ends]' \
+    '--crashes[count crashes that a parent waited for, too]' \
     '--source-root=[show files under DIR by their paths from there]:folder:_files -/' \
     '--color=[colors: auto, always or never]:when:(auto always never)' \
     '--full-stacks[print all frames of a stack, and whole names]' \
     '--shadow[print the shadow bytes round each bad byte]' \
-    '--unchecked=[what was not checked: list, no or error]:how:(list no error)' \
-    '(-q --quiet)'{-q,--quiet}'[no line if all is clean]' \
-    '(-v --verbose)'{-v,--verbose}'[a line for each process]' \
-    '--leaks=[blocks that leak: summary, no or yes]:how:(summary no yes)' \
+    '--unchecked=[unchecked code: list, no or error]:how:(list no error)' \
+    '(-q --quiet)'{-q,--quiet}'[print nothing if all is clean]' \
+    '(-v --verbose)'{-v,--verbose}'[print a line for each process]' \
+    '--leaks=[leaks: summary, no or yes]:how:(summary no yes)' \
     '*--suppressions=[reports that do not count]:file:_files' \
     '--gen-suppressions[print with each report the line that suppresses it]' \
     '--baseline=[reports of this result of --json do not count]:file:_files -g "*.jsonl(-.)"' \
-    '--quarantine=[how many bytes of freed blocks are held]:number (268435456)' \
-    '--no-mismatches[malloc may be freed by delete, and so on]' \
-    '--full[records each malloc and free, not those near faults]' \
-    '--preload[records modules of programs not built so]' \
-    '--memory=[how many bytes each checker may hold]:number (no bound)' \
-    '--limit=[how many events of a process are checked]:number (16777216)' \
+    '--quarantine=[bytes of freed blocks to hold]:number (268435456)' \
+    '--no-mismatches[allow a malloc to be freed by delete, and so on]' \
+    '--full[record all mallocs and frees, not only near faults]' \
+    '--preload[record modules of plain programs, too]' \
+    '--memory=[most bytes that each checker may hold]:number (no bound)' \
+    '--limit=[most events of a process to check]:number (16777216)' \
     '(- *)'{-h,--help}'[print this help]' \
     '(- *)--version[print the name and the release]' \
     '(-)1:command: _command_names -e' \

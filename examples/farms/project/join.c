@@ -1,4 +1,4 @@
-/* Splits a text and puts it together again. What is wrong is in words_join, and the test passes. */
+/* Splits a text and puts it together again. The mistake is in words_join, and the test passes. */
 #include <stdlib.h>
 #include <string.h>
 
