@@ -73,6 +73,8 @@ class versioning
     /* In `strip`: how many rounds are done, and how many of the next are good. In `done`: how many are then. */
     PHINode *rounds_done = nullptr;
     Value *rounds_good = nullptr, *rounds_next = nullptr;
+    /* What has ended the fast loop. It goes last: what it is made of may be used after the loop. */
+    Value *old_end = nullptr;
 
     Value *number(uint64_t value) const
     {
@@ -295,7 +297,7 @@ void versioning::end_fast_loop()
     branch->setCondition(builder.CreateICmp(exits_if ? CmpInst::ICMP_EQ : CmpInst::ICMP_NE, next, rounds_good));
     round->addIncoming(number(0), good);
     round->addIncoming(next, latch);
-    RecursivelyDeleteTriviallyDeadInstructions(old);
+    old_end = old;
 }
 
 /* What a value of the loop is after a copy of it, in the block to which that leads. */
@@ -429,6 +431,7 @@ void versioning::make(const std::function<void(Instruction &)> &mark)
     for (PHINode &variable : it.loop->getHeader()->phis())
         join_variable(variable);
     join_exit();
+    RecursivelyDeleteTriviallyDeadInstructions(old_end);
     for (const range &each : it.ranges)
         for (Instruction *access : each.accesses)
             if (auto *copy = dyn_cast_or_null<Instruction>(static_cast<Value *>(copies.lookup(access))))

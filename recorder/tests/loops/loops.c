@@ -158,6 +158,18 @@ unsigned wrapped(const char *a, unsigned char from, unsigned char rounds)
     return s;
 }
 
+/* What ends it is used after it, and by nothing else in it. */
+long last(const int *a, int n, int less)
+{
+    int i = 0, at;
+    long s = 0;
+    do {
+        s += a[i];
+        at = ++i * 4 - less;
+    } while (at < n);
+    return s + at;
+}
+
 void twice(double *m, long planes, long rows, long columns)
 {
     for (long i = 0; i < planes; i++)

@@ -34,6 +34,7 @@ void globals(int n);
 void prefix(long *a, long n);
 void scatter(int *a, const int *at, int n);
 unsigned wrapped(const char *a, unsigned char from, unsigned char rounds);
+long last(const int *a, int n, int less);
 void twice(double *m, long planes, long rows, long columns);
 void again(int *a, int n, int rounds);
 

@@ -135,7 +135,7 @@ static void run_drawn(int number)
     long ints = (long)size / 4, k = ints + off(), at = off() / 2;
     int *numbers = (int *)one + at;
     s = 0;
-    switch (draw(0, 20)) {
+    switch (draw(0, 21)) {
     case 0:
         up(numbers, (int)k);
         break;
@@ -205,6 +205,9 @@ static void run_drawn(int number)
         break;
     case 20:
         again(numbers, (int)k, (int)draw(0, 40));
+        break;
+    case 21:
+        s = last(numbers, 4 * (int)k + (int)by, (int)by);
         break;
     }
     unsigned long all = 0;
