@@ -121,12 +121,39 @@ const SCEV *access_reader::last_round(Loop *loop, Loop *known_before) const
     return evolution.getNoopOrZeroExtend(last, Type::getInt64Ty(function.getContext()));
 }
 
+/* A loop that ends when two numbers are the same is taken to meet that, which one with a step of several may pass, as
+   the end of an array that lies amid a step. So what is between them after the last round comes to the zeros. */
+bool access_reader::read_end(Loop *loop, const SCEV *last, tested_loop &it) const
+{
+    const auto *end = dyn_cast<ICmpInst>(cast<BranchInst>(loop->getLoopLatch()->getTerminator())->getCondition());
+    if (end == nullptr || !end->isEquality())
+        return true;
+    const SCEV *numbers[2];
+    for (unsigned i = 0; i < 2; i++) {
+        numbers[i] = evolution.getSCEV(end->getOperand(i));
+        if (numbers[i]->getType()->isPointerTy())
+            numbers[i] = evolution.getLosslessPtrToIntExpr(numbers[i]);
+        if (isa<SCEVCouldNotCompute>(numbers[i]))
+            return false;
+    }
+    const auto *moved = dyn_cast<SCEVAddRecExpr>(evolution.getMinusSCEV(numbers[0], numbers[1]));
+    if (moved == nullptr || moved->getLoop() != loop || !moved->isAffine())
+        return false;
+    const auto *step = dyn_cast<SCEVConstant>(moved->getStepRecurrence(evolution));
+    if (step != nullptr && step->getAPInt().abs().isOne())
+        return true;
+    const SCEV *between = moved->evaluateAtIteration(last, evolution);
+    if (!between->isZero())
+        it.zeros.push_back(between);
+    return is_known(between, it.loop);
+}
+
 bool access_reader::read_inner(tested_loop &it) const
 {
     for (Loop *inner : *it.loop) {
         const SCEV *last = inner->isInnermost() ? last_round(inner, it.loop) : nullptr;
         unsigned instructions = count_harmless(inner, loops);
-        if (last == nullptr || instructions == 0 || instructions > MOST_INSTRUCTIONS)
+        if (last == nullptr || instructions == 0 || instructions > MOST_INSTRUCTIONS || !read_end(inner, last, it))
             return false;
         it.inner.push_back({inner, last, instructions});
     }
@@ -210,8 +237,8 @@ bool access_reader::read(Loop *loop, tested_loop &it)
         return false;
     it.instructions = count_harmless(loop, loops);
     it.last = last_round(loop, loop);
-    if (it.last == nullptr || it.instructions == 0 || it.instructions > MOST_INSTRUCTIONS || !read_inner(it)
-        || !read_accesses(it))
+    if (it.last == nullptr || it.instructions == 0 || it.instructions > MOST_INSTRUCTIONS
+        || !read_end(loop, it.last, it) || !read_inner(it) || !read_accesses(it))
         return false;
     if (!it.inner.empty())
         return true;

@@ -30,6 +30,8 @@ struct tested_loop {
     const llvm::SCEV *last; /* of its rounds, from 0 on */
     llvm::SmallVector<inner_loop, 4> inner;
     llvm::SmallVector<range, 8> ranges;
+    /* Each has to be 0, or one of the loops does not end with the last of its rounds. */
+    llvm::SmallVector<const llvm::SCEV *, 2> zeros;
     unsigned instructions; /* of a round, without inner loops */
 };
 
@@ -53,6 +55,7 @@ class access_reader
 
     bool is_known(const llvm::SCEV *value, llvm::Loop *loop) const;
     const llvm::SCEV *last_round(llvm::Loop *loop, llvm::Loop *known_before) const;
+    bool read_end(llvm::Loop *loop, const llvm::SCEV *last, tested_loop &it) const;
     bool read_inner(tested_loop &it) const;
     bool place(llvm::Instruction *access, tested_loop &it, range &found) const;
     void add(tested_loop &it, range &found) const;

@@ -180,6 +180,8 @@ void versioning::compute_before()
     else
         require(builder, builder.CreateAnd(builder.CreateICmpULT(last, number(MOST_INNER)),
                                            builder.CreateICmpUGE(builder.CreateMul(all, work), number(LEAST_WORK))));
+    for (const SCEV *zero : it.zeros)
+        require(builder, builder.CreateIsNull(expand(zero, zero->getType())));
     for (const range &each : it.ranges)
         add_range(builder, each);
 }

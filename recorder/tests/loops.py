@@ -1,12 +1,14 @@
 """Loops that Clang's plugin tests as a whole (loops/loops.c): what a run prints and reports is the same without it, by
 all of them and by drawn ones, of which some go past an end, before a start or over poison. With the plugin
-copies without checks have run."""
+copies without checks have run. Those of attacks.c are meant to lose a bad access."""
 
+import collections
 import glob
+import json
 import os
 import re
 import shutil
-from typing import List, Sequence, Tuple
+from typing import Counter, List, Sequence, Tuple
 
 from support import CC, RECORDER, TESTS, TOP, Compiler, Suite, expect, leave_out, run
 
@@ -66,6 +68,35 @@ def expect_same(found: List[str], wanted: List[str], of: str) -> None:
     expect(len(found), len(wanted), f"{of}: how many lines there are")
 
 
+def found_by(folder: str, suite: Suite, program: str, words: Sequence[str]) -> Tuple[str, Counter[Tuple[str, str]]]:
+    """What a run prints, and how many reports there are of each class in each function."""
+    done = run([RUN, "--json", f"{folder}/found", "--", program, *words], folder, ASANCOL=suite.asancol)
+    found: Counter[Tuple[str, str]] = collections.Counter()
+    with open(f"{folder}/found", encoding="utf-8") as file:
+        for it in map(json.loads, file):
+            if it["type"] == "finding":
+                found[it["class"], it["stack"][0]["function"]] += it["count"]
+    return done.stdout.decode(), found
+
+
+def check_attacks(suite: Suite, folder: str, compiler: Compiler, flags: Sequence[str]) -> None:
+    """Each loop is reported, and one alone as often. LLVM may unroll the loop with its checks otherwise, or make one
+    access of several, which shows in the places of the reports."""
+    ways: Tuple[Tuple[str, List[str]], ...] = (("with", [LOOPS]), ("without", []))
+    for program, option in ways:
+        compiler.c(folder, [f"{TESTS}/loops/attacks.c"], f"{folder}/{program}", "-w", "-pthread", *flags, *option)
+    runs: Tuple[List[str], ...] = ([], ["1"], ["2"], ["3"], ["4"])
+    for words in runs:
+        printed, found = found_by(folder, suite, f"{folder}/with", words)
+        printed_without, found_without = found_by(folder, suite, f"{folder}/without", words)
+        of = " ".join([*flags, *words])
+        expect(printed.splitlines(), printed_without.splitlines(), f"{of}: what it prints")
+        expect(sorted(found), sorted(found_without), f"{of}: what is reported")
+        if words:
+            expect(found, found_without, f"{of}: how often")
+        expect(len(found) != 0, True, f"{of}: bad accesses")
+
+
 def check_options(_suite: Suite, folder: str, compiler: Compiler) -> None:
     """It is given where it helps, and only to a version that it was made for."""
     def is_given(*words: str) -> bool:
@@ -120,3 +151,5 @@ def tests(suite: Suite, compiler: Compiler) -> None:
         leave_out("lld is not there, which links what -flto makes")
     for flags in levels:
         suite.test(f"{compiler} loops same {' '.join(flags)}", check_same, compiler, flags)
+    for flags in (["-O1"], ["-O2"], ["-O3", "-march=haswell"], ["-O2", "-ffast-math", "-fopenmp-simd"]):
+        suite.test(f"{compiler} loops attacks {' '.join(flags)}", check_attacks, compiler, flags)
