@@ -27,7 +27,7 @@ struct hook_page {
     /* The program's, whose functions may have any name. */
     struct code_range program;
     const struct recorder_hooks *hooks; /* of the program (hooks.h) */
-    const struct library *functions;    /* likewise (library.h) */
+    const struct library *functions;    /* too (library.h) */
 };
 
 /* Whether there is a recorder; */

@@ -123,8 +123,8 @@ static void note_malloc(uintptr_t address, size_t size)
         note_left_out(heap_shard());
 }
 
-/* Blocks of some pages get them at once, which takes half as long as a fault for each. Only in a process that was handed
-   out much, so it seems to allocate again and again; and only up to the size from which glibc maps each block, since
+/* Blocks of some pages get them at once, which takes half as long as a fault for each. Only in a process that has got
+   much, so it seems to allocate again and again; and only up to the size from which glibc maps each block, since
    programs may leave much of a larger one untouched. */
 static void populate(const struct block *block, uintptr_t address, size_t size)
 {

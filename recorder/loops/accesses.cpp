@@ -121,8 +121,8 @@ const SCEV *access_reader::last_round(Loop *loop, Loop *known_before) const
     return evolution.getNoopOrZeroExtend(last, Type::getInt64Ty(function.getContext()));
 }
 
-/* A loop that ends when two numbers are the same is taken to meet that, which one with a step of several may pass, as
-   the end of an array that lies amid a step. So what is between them after the last round comes to the zeros. */
+/* A loop that ends when two numbers are equal is taken to meet them, which one with a step of several may pass, as
+   the end of an array that lies amid a step. So the bytes between them after the last round join the zeros. */
 bool access_reader::read_end(Loop *loop, const SCEV *last, tested_loop &it) const
 {
     const auto *end = dyn_cast<ICmpInst>(cast<BranchInst>(loop->getLoopLatch()->getTerminator())->getCondition());

@@ -120,7 +120,7 @@ static bool note_exec(const struct target *target, const char *found)
     return failed == 0 || is_noted;
 }
 
-/* Without a hub nobody needs the path: then it costs less to leave in vain than to look for a file. */
+/* Without a hub nobody needs the path: then leaving for nothing costs less than looking for a file. */
 unsigned becoming_leave(const struct target *target)
 {
     char room[PATH_MAX];

@@ -17,7 +17,7 @@ struct target {
     char *const *environment;
 };
 
-/* Before an exec: leaves the recording too. Answers what is to be taken back if the exec fails, which may be nothing:
+/* Before an exec: leaves the recording too. Answers the changes to take back if the exec fails, perhaps none:
    so it is where the system finds no such file. */
 unsigned becoming_leave(const struct target *target);
 enum { LEFT_RECORDING = 1, LEFT_WORD = 2 };

@@ -41,7 +41,7 @@
 /* After them comes the hook page. */
 _Static_assert((uint64_t)HOOK_PAGE_START == STATED_START + SHADOW_BYTES, "it follows the maps");
 
-/* The codes of granules without an addressable byte. Which of them it is matters to nobody but for the kind of the
+/* The codes of granules without an addressable byte. Which of them it is matters only for the kind of
    poison that the stream gets. */
 enum {
     /* The redzones of frames have the codes from SHADE_LEFT to SHADE_RETURNED. */
@@ -75,7 +75,7 @@ static inline bool is_in_arena(uint64_t address)
     return address >> ARENA_SHIFT == ARENA_NUMBER;
 }
 
-/* So many bytes of the allocator's memory, from a multiple of that on, may have a file as their shadow (unused.h). At
+/* This many bytes of the allocator's memory, from a multiple of that on, may have a file as their shadow (unused.h). At
    any time. */
 #define SHADOW_OF_FILE ((uint64_t)1 << 25)
 bool shadow_is_of_file(uint64_t address);

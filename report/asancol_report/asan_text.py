@@ -21,7 +21,7 @@ RULE = "=" * 65
 ALLOCATING = {"operator new": "operator new(unsigned long)", "operator new []": "operator new[](unsigned long)"}
 FREEING = {"malloc": "free", "operator new": "operator delete(void*)", "operator new []": "operator delete[](void*)"}
 OPERATORS = {"operator delete": "operator delete(void*)", "operator delete []": "operator delete[](void*)"}
-# What is said of an access, and of a signal's: a jump reads instructions.
+# The text about an access, and about a signal's: a jump reads instructions.
 ACCESSES = {"load": "READ", "store": "WRITE"}
 SIGNALLED = {**ACCESSES, "jump": "READ"}
 # Classes of crashes by an access. If its address is not known, none is named.
@@ -152,7 +152,7 @@ class AsanText(Text):
                 yield f"Thread {name} created by {thread_name(threads, thread.creator)} here:"
                 yield from self.frames(thread.created, bases, ["pthread_create"])
 
-    # What is beside the bad byte.
+    # The neighbours of the bad byte.
 
     def where_it_is(self, finding: Finding, bases: Bases) -> Iterator[str]:
         block = finding.block
@@ -319,7 +319,7 @@ def relation(finding: Finding, offset: int, variable: Variable) -> str:
 
 
 def words_of_call(finding: Finding, address: str, thread: str) -> str:
-    """Returns what is said of a call with wrong arguments, or of one that frees what it must not."""
+    """Returns the text about a call with wrong arguments, or of one that frees what it must not."""
     name, size = finding.class_name, finding.size or 0
     if name == MISMATCH:
         return f"{name} ({finding.said}) on {address}"
@@ -361,7 +361,7 @@ def words_of_alignment(finding: Finding) -> str:
 
 
 def sizes_of(finding: Finding) -> Iterator[str]:
-    """What a delete has said of its object, and what was allocated."""
+    """The sizes of the object, by its delete and by its allocation."""
     allocated = finding.block.size if finding.block else 0
     other = ALIGNMENTS_SAID.search(finding.said)
     size = finding.size if other is None else other["size"]

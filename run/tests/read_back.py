@@ -83,7 +83,7 @@ def check_reports(suite: Suite, folder: str) -> None:
 
 
 def end_of(read: str) -> Optional[str]:
-    """Returns the line that says what was read, if it was one."""
+    """Returns the end line of what the reader printed, or nothing."""
     if not read:
         return None
     fate, events, offset, reports = read.split(",")
