@@ -132,8 +132,23 @@ def check_broken(_suite: Suite, folder: str, compiler: Compiler) -> None:
                 pass
     os.unlink(f"{folder}/asancol-cc")
     os.link(f"{RECORDER}/asancol-cc", f"{folder}/asancol-cc")
-    made = run([f"{folder}/asancol-cc", LOOPS, "-O2", "-c", f"{TESTS}/loops/loops.c"], folder, ASANCOL_CC=compiler.name)
-    expect((made.returncode, made.stderr), (0, b""), "the compiler")
+    def compiles(name: str, *words: str) -> Tuple[int, bytes]:
+        argv = [f"{folder}/asancol-cc", LOOPS, "-O2", *words, "-c", f"{TESTS}/loops/loops.c"]
+        made = run(argv, folder, ASANCOL_CC=name)
+        return made.returncode, made.stderr
+    expect(compiles(compiler.name), (0, b""), "without passes")
+    with open(f"{folder}/other", "w", encoding="utf-8") as file:
+        file.write(f'#!/bin/sh\ncase "$*" in *--version*) echo clang version 39.0.1;; *) exec {compiler} "$@";; esac\n')
+    os.chmod(f"{folder}/other", 0o755)
+    expect(compiles(f"{folder}/other"), (0, b""), "another version")
+    status, said = compiles(f"{folder}/other", "-v")
+    expect((status, b"loops_39.so: not found beside" in said), (0, True), "another version, with -v")
+    os.unlink(f"{folder}/libasancol_loops.so")
+    with open(f"{folder}/libasancol_loops.so", "w", encoding="utf-8"):
+        pass
+    expect(compiles(compiler.name), (0, b""), "without a plugin")
+    status, said = compiles(compiler.name, "-v")
+    expect((status, b"loops.so: it can't be loaded" in said), (0, True), "without a plugin, with -v")
 
 
 def tests(suite: Suite, compiler: Compiler) -> None:

@@ -1,6 +1,7 @@
 #define _GNU_SOURCE
 #include "wrapper/loops.h"
 
+#include <dlfcn.h>
 #include <stdio.h>
 #include <stdlib.h>
 #include <string.h>
@@ -41,6 +42,15 @@ static unsigned major_of(const struct job *job)
     return number_after((struct view){text, strlen(text)}, compiler->says);
 }
 
+/* A compiler that can't load its plugin compiles nothing: so this tries it. */
+static bool can_be_loaded(const char *path)
+{
+    void *plugin = dlopen(path, RTLD_NOW | RTLD_LOCAL);
+    if (plugin != NULL)
+        dlclose(plugin);
+    return plugin != NULL;
+}
+
 const char *loops_of(const struct job *job)
 {
     const struct request *request = &job->request;
@@ -50,9 +60,12 @@ const char *loops_of(const struct job *job)
         return NULL;
     unsigned major = major_of(job);
     snprintf(name, sizeof name, LOOPS_FILE_OF, major);
-    if (major != 0 && self_find_file(name) != NULL)
+    bool is_there = major != 0 && self_find_file(name) != NULL;
+    if (is_there && can_be_loaded(plugin))
         return plugin;
-    if (request->is_verbose)
+    if (request->is_verbose && is_there)
+        warn(plugin, "it can't be loaded: loops are checked access by access");
+    else if (request->is_verbose)
         warn(name, "not found beside the wrapper: loops are checked access by access");
     return NULL;
 }
