@@ -29,8 +29,8 @@ from typing import Dict, List, NamedTuple, Optional, Tuple
 
 sys.path.insert(0, f"{os.path.dirname(os.path.realpath(__file__))}/..")  # where `testing` is
 
-import draws
 import oracle
+from testing import draws
 from testing.traces import layout_at, version_of
 
 # No batch may take longer, in seconds.

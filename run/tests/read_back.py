@@ -3,21 +3,17 @@ that are drawn, good and damaged, and of each way to end."""
 
 import re
 import subprocess
-import sys
 from random import Random
 from typing import List, Optional, Sequence
 
 from asancol_report.class_names import OF_ASANCOL
 from asancol_report.verdicts import END, REPORT, Report, report_of
 from support import TOP, Suite, expect
+from testing import draws
 from testing.programs import call
 
-sys.path.insert(0, f"{TOP}/tests")  # where `draws` is
-
-import draws  # type: ignore[import]  # noqa: E402
-
-# How many batches of traces are drawn, and of how many each. asancol takes 256 at once, and the last three are others.
-BATCHES, TRACES = 10, 253
+# How many batches of traces are drawn, and of how many each. A folder and a name of no file make them 256.
+BATCHES, TRACES = 10, 254
 # Options that end a process early.
 OPTIONS: List[Sequence[str]] = [[], ["--limit", "3"], ["--memory", "1048576"], ["--quarantine", "0"]]
 # Ends that need a thread that is refused, and numbers that take long traces.
