@@ -1,6 +1,6 @@
 """What all tests stand on.
 
-- `expectations`: what a test saw and did not expect, and what is left out.
+- `expectations`: unexpected results of a test, and omitted tests.
 - `programs`: the programs of this tree, environments without settings of asancol, runs, and waiting.
 - `suite`: finds tests, runs them side by side, and says what came of them.
 - `watch`: ends tests that hang.

@@ -1,4 +1,4 @@
-"""What a test saw and did not expect, and what is left out."""
+"""Unexpected results of a test, and omitted tests."""
 
 from typing import Any
 

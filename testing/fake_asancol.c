@@ -225,7 +225,7 @@ static void release_oldest(void)
     forget(block);
 }
 
-/* Returns what is wrong with the free, or NULL. */
+/* Returns the mistake of the free, or NULL. */
 static const char *release(uint64_t at)
 {
     struct block wanted = {.from = at, .to = at + 1}, *block = find(&wanted);
@@ -252,7 +252,7 @@ static void clear_blocks(void)
     blocks.bytes = 0;
 }
 
-/* What is printed of a stream. */
+/* The output for a stream. */
 
 static struct {
     uint64_t limit;
@@ -384,7 +384,7 @@ struct input {
     unsigned char bytes[POISON_LENGTH + PIECE];
 };
 
-/* Returns whether so many bytes are there, after the next read if need be. */
+/* Returns whether this many bytes are there, after the next read if need be. */
 static bool has(struct input *input, size_t count)
 {
     while (input->count - input->at < count) {

@@ -168,7 +168,7 @@ def check_changes(suite: Suite, folder: str, compiler: str, target: Target) -> N
 
 
 def check_fuzzer(suite: Suite, folder: str, _libfuzzer: str, target: Target, seconds: float) -> None:
-    """What libFuzzer draws, for so many seconds. It leaves an input that fails in the current folder."""
+    """What libFuzzer draws, for this many seconds. It leaves an input that fails in the current folder."""
     program = build("clang", target, f"fuzzer,{SANITIZERS}", [], folder)
     write_seeds(target, folder)
     with open(f"{folder}/words", "w", encoding="utf-8") as file:

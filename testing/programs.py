@@ -24,7 +24,7 @@ NO_SETTINGS: Dict[str, str] = {}
 
 # No run may take longer, in seconds. Nothing is measured by it.
 PATIENCE = 300
-# And what is waited for comes within so many.
+# And awaited events come within this many.
 SOON = 20
 
 
@@ -80,7 +80,7 @@ def kill_tree(pid: int) -> str:
 
 @contextlib.contextmanager
 def killed_after(pid: int, patience: float = PATIENCE) -> Iterator[None]:
-    """Kills a process and all below it if what is done here takes longer: so who reads what it prints finds an end."""
+    """Kills a process and all below it if the block takes longer: so who reads what it prints finds an end."""
     late = threading.Timer(patience, kill_tree, [pid])
     late.daemon = True
     late.start()

@@ -17,7 +17,7 @@ NO_ENDING, EXIT, EXEC, SIGNAL, LOST, SEGMENT = range(6)
 NO_VARIABLE, OF_STACK, GLOBAL, DYNAMIC = range(4)
 
 
-# ---- what is read
+# ---- reading
 
 
 class Side(layout.Side):
@@ -28,7 +28,7 @@ class Side(layout.Side):
         weakref.finalize(self, os.close, descriptor)
 
     def skipped(self) -> int:
-        """What was not looked at, as numbers that are added."""
+        """The checks that were turned off, as numbers that are added."""
         return int(layout.PROGRESS.unpack(self.bytes_at(layout.PROGRESS_AT, layout.PROGRESS.size))[19])
 
     def used_again(self) -> int:
@@ -36,7 +36,7 @@ class Side(layout.Side):
         return int(layout.PROGRESS.unpack(self.bytes_at(layout.PROGRESS_AT, layout.PROGRESS.size))[-1])
 
     def has_needed(self, events: int) -> bool:
-        """Whether all that may be bad is among so many events."""
+        """Whether all that may be bad is among this many events."""
         return self.needed <= events + 1 and self.noted == 0
 
     def bytes_at(self, at: int, size: int) -> bytes:
@@ -101,7 +101,7 @@ def side_of(path: str) -> Side:
     return Side(os.open(f"{path}.where", os.O_RDONLY | os.O_CLOEXEC))
 
 
-# ---- what is written
+# ---- writing
 
 
 # Parts of a side memory, each with its offset.

@@ -117,10 +117,10 @@ class Suite:
         self.clean_up()
 
     def prepare(self) -> None:
-        """What is done before any test runs."""
+        """The preparation before any test runs."""
 
     def clean_up(self) -> None:
-        """What is done once all tests have run."""
+        """The work after all tests have run."""
 
     # ---- which tests there are
 

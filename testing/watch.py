@@ -53,7 +53,7 @@ class Watch:
         self.longest, self.grace, self.between = longest, grace, between
         # Each test's folder, with its name and when it began; guarded by `changing`.
         self.running: Dict[str, Tuple[str, float]] = {}
-        self.killed: Dict[str, List[str]] = {}  # the names of what was killed; guarded by `changing`
+        self.killed: Dict[str, List[str]] = {}  # the names of killed programs; guarded by `changing`
         self.changing = threading.Lock()
         self.is_over = threading.Event()
         self.thread = threading.Thread(target=self.look_after, daemon=True)

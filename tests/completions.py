@@ -19,7 +19,7 @@ FOLDERS = {
     "asancol-listen": "listen/completions",
 }
 
-# What is typed after the name of a program, in a folder with run.trace, result.jsonl and a folder results, and one of
+# The words typed after the name of a program, in a folder with run.trace, result.jsonl and a folder results, and one of
 # the words that are offered.
 OFFERED: Dict[str, List[Tuple[List[str], str]]] = {
     "asancol": [
@@ -65,7 +65,8 @@ WITHHELD: Dict[str, List[Tuple[List[str], str]]] = {
     "asancol-listen": [(["socket", "results", "ls", "--"], "--connections"), (["--mode", ""], "result.jsonl")],
 }
 
-# What is replaced in options/asancol-run.options, by what, and the option and the words by which that is refused.
+# The text replaced in options/asancol-run.options, its replacement, and the option and the words by which that is
+# refused.
 MISTAKES = [
     ("Takes: a number, 0 to 255", "Takes: a number, 300", "--exitcode N: this is nothing that an option takes"),
     ("Takes: as asancol check", "Takes: as asancol", "--quarantine B: it takes what a program takes that has no such"),
@@ -83,7 +84,7 @@ MISTAKES = [
      "asancol-run: its help has 44 lines of at most 44, and 1 too wide"),
 ]
 
-# Each prints what is offered by the file $1 for the words after it, of which the first is the program.
+# Each prints the completions by the file $1 for the words after it, of which the first is the program.
 BASH = r"""
 source "$1" && shift
 COMP_WORDS=("$@") COMP_CWORD=$(($# - 1))
@@ -137,7 +138,7 @@ def text_of(path: str) -> str:
 
 
 def tables_are_made(program: str) -> None:
-    """What is made of the tables of options is there, and the help of asancol has what its table has."""
+    """The files generated from the tables of options are there, and the help of asancol has what its table has."""
     expect(output_of([f"{TOP}/options/make.py", "--check", program]), "", "options/make.py --check")
 
 

@@ -81,8 +81,8 @@ def checked_by(pid: int) -> Optional[Key]:
 
 
 class Meter:
-    """Reads what the checks below this process cost, from `with` to the end of its block. What is
-    done there has parts, each with a name, and some run side by side."""
+    """Reads what the checks below this process cost, from `with` to the end of its block. The block has parts,
+    each with a name, and some run side by side."""
 
     def __init__(self) -> None:
         self.checks: Dict[Tuple[int, int], Key] = {}

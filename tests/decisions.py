@@ -67,7 +67,7 @@ def as_proved(crate: str, room: str) -> Tuple[str, Step]:
 
 
 def why_not(one: Decisions, room: str, is_proved: bool) -> str:
-    """Returns what is wrong, or nothing."""
+    """Returns the difference, or nothing."""
     library, step = as_proved(one.crate, room) if is_proved else by_rt(one.crate)
     program = f"{room}/compare_{one.crate}"
     compiler = shlex.split(os.environ.get("CC", "cc"))

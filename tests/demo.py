@@ -49,7 +49,7 @@ def read(path: str) -> bytes:
 
 
 def show_traces(program: str, traces: List[str]) -> bool:
-    """Prints what is said of each trace, as a shell shows it, and returns whether all have a
+    """Prints the report on each trace, as a shell shows it, and returns whether all have a
     report."""
     runs = by_try([read(it) for it in traces]) if program == "-" else by_program(program, traces)
     for trace, (text, status) in zip(traces, runs):

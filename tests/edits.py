@@ -123,8 +123,8 @@ class Source:
         }
 
     def proofs_of(self, name: str) -> Optional[List[str]]:
-        """Returns the folders, below `proofs`, with what is written of a function's proof and of
-        its closures, or None if it can't be seen which they are. Those of a method stand below the
+        """Returns the folders, below `proofs`, with the hand-written proofs of a function and of its closures,
+        or None if it can't be seen which they are. Those of a method stand below the
         module of its type, wherever its block is."""
         path, function = self.functions[name]
         module = re.sub(r"^src/|(?:/mod)?\.rt$", "", path)
@@ -141,8 +141,8 @@ class Source:
 
     def reached(self, name: str) -> Set[str]:
         """Returns the functions of the crate that this one may call, and those that they may call.
-        It goes by names, so there can be too many. If one is missed, the check says of its caller
-        that it calls what is not proved, which counts for nothing."""
+        It goes by names, so there can be too many. If one is missed, the check says of its caller that it calls an
+        unproved function, which counts for nothing."""
         if name not in self.reach:
             self.reach[name] = closure(name, self.called)
         return self.reach[name]

@@ -41,7 +41,7 @@ FAILED = re.compile(
 
 
 class Traces:
-    """Traces, one for each process, and what is printed of each alone."""
+    """Traces, one for each process, and the output for each alone."""
 
     def __init__(self, program, traces):
         self.alone = []

@@ -221,7 +221,7 @@ class Recipe(NamedTuple):
     wanted: Statuses
     around: Context = nothing_more
     needs: str = ""  # a command that has to succeed
-    has_vendor: bool = True  # whether there is a result of what was not recorded
+    has_vendor: bool = True  # whether a test that was not recorded has a result
 
 
 FAILED_BUT_SPLIT = {name: "passed" if name == "split" else "failed" for name in TESTS}

@@ -36,10 +36,10 @@ from testing.traces import layout_at, version_of
 # No batch may take longer, in seconds.
 PATIENCE = 120
 
-# Each read of a pipe or a socket that keeps its messages apart gives one piece, of at most so many.
+# Each read of a pipe or a socket that keeps its messages apart gives one piece, of at most this many.
 MAX_PIECE = 4096
 
-# A trace comes in at most about so many pieces. They wait in the pipe or the socket if nobody reads:
+# A trace comes in at most about this many pieces. They wait in the pipe or the socket if nobody reads:
 # after a close the program reads no more of that trace, and the others still have to be written.
 MAX_PIECES = 200
 PIPE_ROOM = 1 << 20
@@ -133,7 +133,7 @@ def ran(program: str, argv: List[str], **how: object) -> Printed:
 
 
 def write_traces(traces: List[bytes]) -> List[str]:
-    """Writes the traces into the current folder, over what was there, and answers their names."""
+    """Writes the traces into the current folder, over earlier ones, and returns their names."""
     for i, trace in enumerate(traces):
         with open(f"{i}.trace", "wb") as file:
             file.write(trace)

@@ -1,4 +1,4 @@
-/* Runs a target of the fuzzer without it: on the files that are named, and on each of them changed so many times, the
+/* Runs a target of the fuzzer without it: on the files that are named, and on each of them changed this many times, the
    same each time. usage: TARGET CHANGES FILE.. */
 #include <stdint.h>
 #include <stdio.h>

@@ -16,7 +16,7 @@ of all of them together. The status is 0 where nothing failed.
 
 With `--changed` only the crates with a file that differs from BASE are checked, and those that
 stand on them, over what earlier checks kept. BASE is the commit where the branch left `main`, if
-none is given. The last line says what was left out.
+none is given. The last line lists omitted steps.
 """
 
 import contextlib

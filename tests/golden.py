@@ -52,7 +52,7 @@ class Row(NamedTuple):
 
 
 class Printed(NamedTuple):
-    """What is printed of a trace without the number of its process, and the status."""
+    """The output for a trace without the number of its process, and the status."""
 
     lines: List[str]
     status: int
@@ -62,7 +62,7 @@ class Printed(NamedTuple):
 
 
 def printed(row: Row, version: int, length: int) -> Printed:
-    """Returns what is printed of the first bytes of a row's trace, as many as `length`, by the fates of docs/FORMAT.md.
+    """Returns the output for the first `length` bytes of a row's trace, by the fates of docs/FORMAT.md.
     Where the row says how its end is decided, it is that from the byte on that decides it."""
     ends = [len(HEADER)]  # of the header, and of each record
     for event in row.events:
@@ -86,7 +86,7 @@ def printed(row: Row, version: int, length: int) -> Printed:
 
 
 def row_of(path: str, line: int, block: List[str]) -> Row:
-    """Returns the row of a block of lines: its name, its events, and what is printed."""
+    """Returns the row of a block of lines: its name, its events, and the output."""
     lines = [it for it in block if it.startswith("p0 ")]
     front, _, text = " ".join(block[1 : len(block) - len(lines)]).rpartition(": ")
     options = [OPTION.fullmatch(it) for it in front.split(", ")] if front else []

@@ -16,7 +16,7 @@ from typing import List, Optional
 
 from gate import TOP
 
-# What reads edits and says what is refused.
+# The sources that read edits and judge refusals.
 SCRIPTS = ("bodies", "edits", "kept", "rooms", "rounds", "verdicts", "mutants")
 
 # How long an answer stays that no run asks for, in seconds.

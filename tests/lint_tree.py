@@ -20,7 +20,7 @@ usage: tests/lint_tree.py
 - The golden rows that MODEL.md shows, the stored traces and the lemmas of `Examples` are what
   the rows of their names say (`golden.py`).
 - What a crate is for stands on its own page as in the table of ARCHITECTURE.md.
-- What is made of the tables in `options` is what `make options` would write.
+- The files generated from the tables in `options` are as `make options` would write them.
 - The program says the release that VERSION says: it can't read the file, since it is proved.
 
 Each finding is a line `FILE:LINE: what`. The last line counts them, and the status is 1 if there are

@@ -1,10 +1,10 @@
-"""A long trace and what is printed of it, for runs.py.
+"""A long trace and its output, for runs.py.
 
 200,000 blocks are allocated and freed, and all are held, since the quarantine is the largest there
 is. Blocks of 2^32 bytes fill it up, and the free of the last of them releases most of the small
 ones. Then come 100,000 reports.
 
-What is printed is worked out here by a small model of blocks, which was written from
+The output is worked out here by a small model of blocks, which was written from
 docs/inside/MODEL.md and docs/FORMAT.md alone. It knows mallocs, frees, loads and stores.
 """
 
@@ -128,7 +128,7 @@ class Model:
 
 
 class Long(NamedTuple):
-    """The bytes of the trace, and what is printed of it, without the number of its process."""
+    """The bytes of the trace, and its output, without the number of its process."""
 
     trace: bytes
     lines: List[str]

@@ -14,9 +14,9 @@ clear of is tried alone, first its function and then the whole crate. So are edi
 with the functions that name them, and of definitions and proofs. It is NOT REFUSED if the crate is
 proved with it. A BAD EDIT can't be made, or the prover can't read what it makes.
 
-What was refused earlier, by the same toolchain, of the same files of the crate and of those below
+A mutant refused earlier, by the same toolchain, of the same files of the crate and of those below
 it, is not tried again (`kept.py`): its line has `(kept)`, and another line says how many were tried
-in this run. `--anew` tries all. So many checks run side by side as there are processors, if
+in this run. `--anew` tries all. This many checks run side by side as there are processors, if
 `--lanes` says no other number. The libraries are made first, by `rt lib`. With `--as-proved` they
 are those that `rt ci` makes beside this: standard input has the name of each crate, on a line, once
 that has proved it. With no CRATE the edits of all crates are tried. The last line is
@@ -43,7 +43,7 @@ from rooms import Base, Libraries, Ran, bases
 from rounds import Round
 from verdicts import BAD, REFUSED, UNTRIED, Answer, Verdicts, whole_crate
 
-# What is left to do of a crate.
+# The remaining work on a crate.
 Task = Callable[[], None]
 
 # How many functions the list of the dearest has.
@@ -107,7 +107,7 @@ class Run:
             self.kept.put(crate.keys[edit.name], answer.why)
 
     def take_kept(self, crate: Crate) -> None:
-        """Says what is known of a crate's edits, and leaves the others to be tried."""
+        """Reports the known results of a crate's edits, and leaves the others to be tried."""
         for edit in crate.edits:
             why = self.kept.get(crate.keys[edit.name])
             if edit.bad:
@@ -174,7 +174,7 @@ class Run:
         return made
 
     def count(self, crate: Crate, made: Ran, edits: int) -> None:
-        """Counts a check of a crate, of so many edits or of none."""
+        """Counts a check of a crate, of this many edits or of none."""
         with self.lock:
             self.costs.setdefault(crate.name, []).append((made.seconds, edits))
             self.each.update(made.each if edits else {})

@@ -4,7 +4,7 @@
 usage: tests/mutants_alone.py [--anew] [CRATE..]
 
 It is the cross-check of `mutants.py`, which tries several in one check by code of this repository:
-here `rt must-fail` reads the same edits and says what is refused. It takes edits from folders named
+here `rt must-fail` reads the same edits and reports refusals. It takes edits from folders named
 `must-fail`, so this runs it in a copy of the repository, in a temporary folder, where each folder
 `mutants` has that name. It begins with what checks kept here, and takes two hours of one processor
 for all crates. What it has refused is kept on the machine, by the toolchain; `--anew` tries all.

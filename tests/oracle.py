@@ -188,7 +188,7 @@ class SlowChecker:
         return states
 
     def fault(self, event: Event) -> Optional[str]:
-        """Carries an event out, or answers what is wrong with it."""
+        """Carries an event out, or returns its mistake."""
         if event.code == MALLOC:
             return self.malloc(event)
         if event.code == FREE:
@@ -253,7 +253,7 @@ class SlowChecker:
 
 
 def verdicts(events: List[Event], quarantine: int = DEFAULT_QUARANTINE) -> List[Verdict]:
-    """What is wrong with each event that is bad, by its number from 1."""
+    """The mistake of each bad event, by its number from 1."""
     checker = SlowChecker(quarantine)
     faults = [checker.fault(event) for event in events]
     return [Verdict(number, text) for number, text in enumerate(faults, 1) if text is not None]

@@ -72,7 +72,7 @@ def archive_of(folder: str) -> str:
 
 
 def archive_is_the_same(_: str, folder: str) -> None:
-    """It has what is committed, and the page that is made, whoever makes it and whenever."""
+    """It has the committed files, and the generated page, whoever makes it and whenever."""
     first = sum_of(archive_of(folder))
     archive = archive_of(folder)
     expect(sum_of(archive), first, "the archive, once more")
@@ -117,7 +117,7 @@ def what_is_installed_goes_again(_: str, folder: str) -> None:
 
 
 def programs_stay_small(_: str, folder: str) -> None:
-    """What is installed has no debug information, which would come into each program; a bug's lines are there."""
+    """Installed files have no debug information, which would come into each program; a bug's lines are there."""
     sizes = []
     for asked in ("", "DEBUG=1"):
         place = f"{folder}/{asked}"
@@ -184,7 +184,7 @@ class Root:
 
 
 def package_finds_a_bug(_: str, folder: str) -> None:
-    """It installs, finds the first bug, and leaves nothing when it is purged; what is installed stays as it is."""
+    """It installs, finds the first bug, and leaves nothing when it is purged; other installed files stay unchanged."""
     root = Root(folder)
     before = root.files()
     root.dpkg("--install", package_of(folder))

@@ -45,7 +45,7 @@ ELSEWHERE = {
 PAGE = re.compile(
     r"(?:docs/(?:inside/)?[^/]+|(?:crates/\w+|common|recorder|run)/README|README|CHANGELOG|CONTRIBUTING)\.md"
 )
-# What is made of the sources: a page may name it, but a link would lead to nothing where it is not made.
+# A generated file: a page may name it, but a link would lead to nothing where it is not made.
 MADE = {"docs/CALLS.md"}
 
 SPAN = re.compile(r"`([^`]+)`")

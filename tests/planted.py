@@ -1,7 +1,7 @@
 #!/usr/bin/env python3
 """Tries mutants.py on edits of which it is known what has to be said of them.
 
-They are planted in a copy of the crate asan_units, in a temporary folder. What is refused is kept, also
+They are planted in a copy of the crate asan_units, in a temporary folder. Refusals are kept, also
 once another crate stands on that one. The last line is `N passed, M failed`. It takes a minute of one
 processor.
 """

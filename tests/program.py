@@ -1,4 +1,4 @@
-"""A built program that is run with words, what is printed of some traces, and the suites of such runs."""
+"""A built program that is run with words, the output for some traces, and the suites of such runs."""
 
 import itertools
 import os
@@ -21,7 +21,7 @@ NOBODY = 65534
 # A name in each program that `rt try` has built, with checks in the place of the proof.
 OF_CHECKS = b"__asan_init"
 
-# What is said where a word is no command, and where one is a short form that is not there.
+# The message where a word is not a command, and where one is a short form that is not there.
 HINT = "\nTo check a trace in a file: asancol check FILE\n"
 NO_SHORT_FORM = "\nThe options --verbose and --version have no short form\n"
 HINTS = {"": HINT, "-v": NO_SHORT_FORM, "-V": NO_SHORT_FORM}
@@ -42,7 +42,7 @@ TWICE_FREED = closed(malloc(0x1000, 8), free(0x1000), free(0x1000))
 
 
 def past_the_end(process=0):
-    """What is printed of PAST_THE_END."""
+    """The output for PAST_THE_END."""
     return (
         f"p{process} #2 store 4 at 000000001004 bad 000000001005"
         " heap-buffer-overflow shadow 05\n"
@@ -51,17 +51,17 @@ def past_the_end(process=0):
 
 
 def sound(process=0):
-    """What is printed of SOUND."""
+    """The output for SOUND."""
     return f"p{process} end closed events 2 offset 36 reports 0\n"
 
 
 def cut(process=0):
-    """What is printed of CUT."""
+    """The output for CUT."""
     return f"p{process} end truncated events 1 offset 25 reports 0\n"
 
 
 def prepared(before=None):
-    """What is done just before a program starts: root is given up for good, and `before` called.
+    """The preparation just before a program starts: root is given up for good, and `before` called.
 
     Where the real user is not the one that a program acts for, the C library opens something in
     the place of each standard stream that is closed, and no other run has that."""
@@ -273,7 +273,7 @@ class Runs(Suite):
             raise Failure(text or f"its process ended with {status}")
 
     def run_here(self, test, folder, said):
-        """Runs a test in this process, which is its own, says what was wrong, and returns the status to end with."""
+        """Runs a test in this process, which is its own, prints the failure, and returns the status to end with."""
         status = 0
         os.chdir(folder)
         try:
@@ -297,7 +297,7 @@ class Runs(Suite):
 
 
 def main(about, add):
-    """Runs what `add` adds to a suite. What is a file on the command line is a program, and anything else a word."""
+    """Runs what `add` adds to a suite. A file on the command line is a program, and anything else a word."""
     request = suite.read(suite.reader_of(about))
     programs = [it for it in request.words if os.path.isfile(it)]
     request.words = [it for it in request.words if it not in programs]

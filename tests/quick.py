@@ -10,7 +10,7 @@ Side by side run, by as many jobs as there are processors:
   has checks in the place of its proof;
 - once the C programs are built, the tests of the recorder and of asancol-run that are quick, which
   `testing/suite.py` says by a rule, and those of the packages. For them a fake of asancol,
-  `testing/fake_asancol.c`, checks what is recorded, since what `rt try` builds takes 100 times as
+  `testing/fake_asancol.c`, checks recordings, since a build by `rt try` takes 100 times as
   long. The fake itself is compared with the documents, as the program is.
 
 If ./asancol is up to date, which is proved, it takes the place of both. With --checked it has to
@@ -18,7 +18,7 @@ be, and what `make check` has run is left out: the tests of the crates and those
 
 Words choose the parts whose names have one of them: `crate NAME`, `program`, `fake: fuzz`,
 `fake: runs`, `recorder`, `asancol-run` and `packages`. A line says when a part begins, and another
-one how it ended. What was skipped comes after them, with why. The last line is 'N passed, N failed,
+one how it ended. Skipped ones come after them, with reasons. The last line is 'N passed, N failed,
 N skipped'. The status is 0 if something passed and nothing failed.
 """
 
@@ -135,7 +135,7 @@ class Results:
         return self.passed == self.failed == 0 and not self.skipped
 
     def finish(self) -> int:
-        """Says what was skipped, and the counts. Returns the status to end with."""
+        """Prints the skipped ones, and the counts. Returns the status to end with."""
         for why, count in sorted(self.skipped.items()):
             print(f"skipped: {count}: {why}")
         print(f"{self.passed} passed, {self.failed} failed, {sum(self.skipped.values())} skipped")
@@ -150,7 +150,7 @@ def jobs_with_rt() -> int:
 
 
 class Quick:
-    """The parts, and the programs that they run. The folder `room` holds what is built for them."""
+    """The parts, and the programs that they run. The folder `room` holds their builds."""
 
     def __init__(
         self, results: Results, room: str, is_checked: bool, words: Sequence[str]

@@ -1,7 +1,7 @@
 """Folders where mutants are checked.
 
-Of each crate there is a base: its text as it stands, and what was checked of it. A room is a
-temporary copy of it with other texts, and shares what was checked. A check there is by the
+Of each crate there is a base: its current text, and its checked files. A room is a
+temporary copy of it with other texts, and shares the checked files. A check there is by the
 toolchain's compiler itself, and not by `rt`, which would prove the crates below once more, and has
 one check at a time of crates that stand on the same ones.
 """
@@ -25,7 +25,7 @@ from rounds import Copy
 
 PARTS = ("src", "specs", "proofs")
 
-# Where a base has what was checked of its crate.
+# Where a base has its crate's checked files.
 CHECKED = "checked"
 
 # The status of a check of a path that fits no function.
@@ -107,7 +107,7 @@ class Libraries:
 
 
 class Base:
-    """A crate's text as it stands, and what was checked of it, over the libraries below it."""
+    """A crate's current text, and its checked files, over the libraries below it."""
 
     def __init__(self, all_bases: str, crate: str) -> None:
         self.crate = crate
@@ -129,8 +129,8 @@ class Base:
 
     def prove(self, paths: Optional[List[str]]) -> "Ran":
         """Checks what these paths name and all that it rests on, or without them the whole crate, as
-        also if a check prints one of them otherwise. It begins with what `rt` checked in the
-        repository, or else with what was checked here."""
+        also if a check prints one of them otherwise. It begins with the files that `rt` checked in the repository, or
+        else with those checked here."""
         by_rt = f"{TOP}/crates/{self.crate}/out/incremental"
         if os.path.isdir(by_rt):
             copy_folder(by_rt, f"{self.folder}/{CHECKED}", link)

@@ -148,7 +148,7 @@ def write(peer, text, seed):
 
 
 class Trace:
-    """A trace, its file, and what is printed of it alone."""
+    """A trace, its file, and its output alone."""
 
     def __init__(self, program, folder, number, text):
         self.number = number

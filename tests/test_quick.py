@@ -1,4 +1,4 @@
-"""Tests of `quick.py`: what fails, and what is left out, is counted and named."""
+"""Tests of `quick.py`: failed and omitted tests are counted and named."""
 
 import contextlib
 import io

@@ -5,8 +5,8 @@ usage: tests/unproved.py < TRACE
        tests/unproved.py --build FILE      leaves the program, and checks nothing
 
 `rt try` compiles the program once, with checks in the place of its proof, and runs it. If nothing
-was built before, that takes a minute or two. `make demo` calls this if ./asancol is not there. What
-is built has the checks too: an event takes it tens of microseconds.
+was built before, that takes a minute or two. `make demo` calls this if ./asancol is not there. The built program has
+the checks too: an event takes it tens of microseconds.
 """
 
 import os

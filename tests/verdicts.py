@@ -1,8 +1,8 @@
 """What a check says of the mutants in it.
 
 An edit is refused only if the prover refuses its function for a reason of that function's own, in a
-check of which all else is proved. A line that says that the function calls what is not proved
-counts for nothing, since another edit of the same check may have broken that.
+check of which all else is proved. A line that says that the function calls an unproved one counts for nothing,
+since another edit of the same check may have broken that.
 """
 
 import re
@@ -43,7 +43,7 @@ class Answer(NamedTuple):
 
 
 class Message(NamedTuple):
-    """A line that says of a place what is wrong there, or with line 0 of a file."""
+    """A line that reports a mistake at a place, or with line 0 in a file."""
 
     path: str
     line: int
@@ -86,7 +86,7 @@ class Verdicts:
         return like[0] if len(like) == 1 else name
 
     def messages_on(self, name: str) -> List[Message]:
-        """Returns what is said of a function's body, its clauses and its proof files."""
+        """Returns the lines on a function's body, its clauses and its proof files."""
         path, lines = self.places[name]
         parts = self.name_of(name).split("::")[1:]
         above, last = "/".join(["proofs", *parts[:-1]]), parts[-1]
@@ -101,7 +101,7 @@ class Verdicts:
         return self.printed.get(self.name_of(name), "").startswith("proved")
 
     def others_not_proved(self) -> List[str]:
-        """Returns what is not proved, as the check prints it, though it is as it was. A control
+        """Returns the unproved goals, as the check prints them, though it is as it was. A control
         counts for its own edits alone, and a closure for its function."""
         names = [it for edit in self.tried.edits for it in self.tried.changed(edit)]
         names += [it.name for it in self.tried.controls.values()]

@@ -11,7 +11,7 @@ from support import TESTS, Compiler, Suite, expect, run, side_of, write
 from testing.lines import lines_of
 from testing.side import DYNAMIC, OF_STACK
 
-# What is reported of each way in accesses.c: the kind, the size, how far from the block it begins, and the function.
+# The report of each way in accesses.c: the kind, the size, how far from the block it begins, and the function.
 Access = Tuple[str, int, int, str]
 
 CALLS = {

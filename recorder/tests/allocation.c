@@ -1,5 +1,5 @@
 /* A sound program that calls all of malloc.h, by each name that the C library gives it, and obstacks. It is silent and
-   ends with 0 where each block holds what was put into it. */
+   ends with 0 where each block holds its own bytes. */
 #define _GNU_SOURCE
 #include <errno.h>
 #include <malloc.h>
@@ -96,7 +96,7 @@ static void settings(void)
     malloc_trim(0);
 }
 
-/* What is counted: ten thousand bytes more are at least that. */
+/* The counted bytes: ten thousand bytes more are at least that. */
 static void numbers(void)
 {
     size_t before = mallinfo2().uordblks;

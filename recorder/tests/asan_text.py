@@ -92,7 +92,7 @@ def check_beside(suite, folder, real, ours, name):
 
 
 def check_halts(suite, folder, real, ours, name):
-    """The process says itself what is wrong, on whatever descriptor 2 is; its end is no crash, and there is one
+    """The process prints the report itself, on whatever descriptor 2 is; its end is no crash, and there is one
     report."""
     wanted = said_at_halt(run([real, name], folder).stderr.decode())
     alone = run([ours, name], folder, ASANCOL_HALT="1")

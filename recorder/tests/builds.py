@@ -51,9 +51,9 @@ def check_objects(suite, folder, compiler):
 
 
 def check_texts(suite, folder, compiler):
-    """What is written in place of an object."""
+    """The output in place of an object."""
     made = Builder(suite, folder, compiler)
-    # Scripts such as configure read what is preprocessed: it has nothing of the recorder's.
+    # Scripts such as configure read preprocessed text: it has nothing of the recorder's.
     shown = made.cc("-E", "-DVALUE=7", "helper.c")
     expect((b"((volatile char *)p)[8] = 7" in shown, b"asan" in shown), (True, False), "-E")
     expect(b"helper.o: helper.c" in made.cc("-M", "helper.c"), True, "-M")
@@ -129,7 +129,7 @@ LACKING = {
 
 
 def check_options(suite, folder, compiler):
-    """Other kinds of programs, all warnings, and the sanitizer of what is undefined."""
+    """Other kinds of programs, all warnings, and the sanitizer for undefined behaviour."""
     made = Builder(suite, folder, compiler)
     both = ("-DVALUE=1", "main.c", "helper.c")
     for flags in (["-no-pie"], ["-O2", "-D_FORTIFY_SOURCE=2"], ["-std=c99", "-pedantic-errors"]):
@@ -147,8 +147,8 @@ def check_options(suite, folder, compiler):
 
 
 def check_no_recovery(suite, folder, compiler):
-    """-fno-sanitize-recover=all, often beside -fsanitize=undefined: a bad access does not end the process, and what is
-    undefined does, as it says."""
+    """-fno-sanitize-recover=all, often beside -fsanitize=undefined: a bad access does not end the process, and
+    undefined behaviour does, as it says."""
     made = Builder(suite, folder, compiler)
     both = ("-DVALUE=1", "main.c", "helper.c")
     made.link("-fno-sanitize-recover=all", *both)
@@ -207,8 +207,8 @@ LACKING_FOR_GOOD = {
 
 
 def check_lacking_checks(suite, folder, compiler):
-    """Words that take some of the checks away are let through, and said: of what is compiled with them the verdict does
-    not say that it was checked. The last one holds."""
+    """Words that take some of the checks away are let through, and said: the verdict does not say of code compiled with
+    them that it was checked. The last one holds."""
     made = Builder(suite, folder, compiler)
     write(folder, words_rsp=f"{LACKING[compiler.name][0]}\n", list_txt="fun:helper\n")
     text = "what is compiled with this lacks checks: what they would find is not recorded"
@@ -260,7 +260,7 @@ def check_cxx_inside(suite, folder, compiler):
 
 
 def check_languages(suite, folder, compiler):
-    """Headers, one that is precompiled and then included first; what is preprocessed, and what is assembled."""
+    """Headers, one that is precompiled and then included first; preprocessed text, and assembly."""
     made = Builder(suite, folder, compiler)
     made.objects()
     write(folder, one_h="extern int one;\n")

@@ -898,7 +898,7 @@ def names_there() -> List[str]:
 
 
 def found_by(suite: Suite, folder: str, less: int, alone: Sequence[int]) -> Tuple[Set[str], Set[int]]:
-    """The lines that are found with so many bytes less, and the numbers of the uses that were left out."""
+    """The lines that are found with this many bytes less, and the numbers of the uses that were left out."""
     lines, left_out = set(), set()
     for argv in [(), *([str(number)] for number in alone)]:
         trace = f"{folder}/calls.trace"
@@ -1197,7 +1197,7 @@ int main(int count, char **argv)
 
 
 def check_mathematics(suite: Suite, folder: str, compiler: Compiler) -> None:
-    """The library of mathematics: also if the linker takes only what is needed of it, if it comes with a library that
+    """The library of mathematics: also if the linker takes only the needed parts of it, if it comes with a library that
     is opened, and if it is not there."""
     write(folder, turned_c=TURNED, parted_c=PARTED)
     compiler.c(folder, ["-c", "turned.c"], f"{folder}/turned.o", "-fPIC", "-w")
@@ -1220,7 +1220,7 @@ def check_mathematics(suite: Suite, folder: str, compiler: Compiler) -> None:
 
 def check_page(suite: Suite, folder: str) -> None:
     """The page can be made. It has a line for each row, in their order, with all names of the row and its
-    parameters, and says of each what is read, written or allocated."""
+    parameters, and lists the reads, writes and allocations of each."""
     made = run([f"{TESTS}/calls_page.py"], folder)
     expect((made.returncode, made.stderr), (0, b""), "calls_page.py")
     lines = [it.strip("|").split(" | ") for it in made.stdout.decode().splitlines() if it.startswith("| `")]

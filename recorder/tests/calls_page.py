@@ -1,5 +1,6 @@
 #!/usr/bin/env python3
-"""Prints docs/CALLS.md, which says of each row of recorder/calls/calls.def what is recorded. `make docs` writes it.
+"""Prints docs/CALLS.md, which lists the recorded accesses of each row of recorder/calls/calls.def. `make docs` writes
+it.
 
 usage: recorder/tests/calls_page.py > docs/CALLS.md
 """

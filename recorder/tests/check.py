@@ -4,7 +4,7 @@
 usage: recorder/tests/check.py [--list] [--junit FILE] [--quick | --rest] ASANCOL [WORD..]
 
 A word chooses the test whose name it is, or else those whose names have it. The last line is 'N passed, M failed', and
-the status is 1 if a test failed. What is not there (a compiler, its AddressSanitizer) is said in a line, and left out.
+the status is 1 if a test failed. A missing tool (a compiler, its AddressSanitizer) is named in a line, and left out.
 If SANITIZE is set, the parsers of the recorder and of asancol-cc, and what its threads share, run under the compilers'
 own sanitizers too.
 """

@@ -19,7 +19,7 @@ RUNTIMES = {"clang": ("libclang_rt.asan-x86_64.a", ["asan_errors.cpp.o", "asan_r
             "gcc": ("libasan.so", ())}
 # A class among the texts of a program, as `out-of-memory`.
 CLASS = re.compile(rb"(?<=\0)[a-z_]{3,}(?:-[a-z_]{2,})+(?=\0)")
-# The same, but no class: how grave a fault is, and what is run.
+# The same, but no class: the severity of a fault, and the command.
 OTHERS = {"default-aligned", "far-from-bounds", "heap-invalid", "llvm-symbolizer", "null-deref", "multi-byte",
           "wild-addr",
           "wild-addr-read", "wild-addr-write", "wild-jump"}

@@ -47,7 +47,7 @@ def check_limit(suite: Suite, folder: str, program: str) -> None:
     said = lines_of(ran.stderr)
     expect((len(said), said[0].split(": ")[0], said[0].split(": ")[-1]), (1, "asancol", str(events - 50000)), "said")
     expect(whole.stderr, b"", "standard error without a limit")
-    # One event fewer, and as many as there are.
+    # One event fewer, and all of them.
     less, exact = f"{folder}/less.trace", f"{folder}/exact.trace"
     ran = run([program, "many_events"], folder, ASANCOL_TRACE=less, **limited(events - 1))
     expect(len(lines_of(ran.stderr)), 1, ran.stderr)
@@ -118,7 +118,7 @@ def expect_warnings(said: Sequence[str], *wanted: str) -> None:
 
 
 def expect_noted(folder: str, *wanted: str) -> None:
-    """What the program says of itself that was not compiled so."""
+    """The note of a program that was compiled otherwise."""
     expect(noted(f"{folder}/program"), list(wanted), "what was noted")
 
 
@@ -203,7 +203,7 @@ def check_plain_objects(suite: Suite, folder: str, compiler: Compiler) -> None:
     expect_warnings(warned(folder, compiler, "-DVALUE=1", "main.c", "helper.c", *objects, "-o", "program"))
     expect_noted(folder, *objects)
     one_mark(suite, folder)
-    # What was assembled is not recorded either.
+    # Assembled code is not recorded either.
     expect_warnings(warned(folder, compiler, "-c", "code.s"))
     expect_warnings(warned(folder, compiler, "-DVALUE=1", "main.c", "helper.c", "code.o", "-o", "program"))
     expect_noted(folder, "code.o")
@@ -262,7 +262,7 @@ def check_spellings(suite: Suite, folder: str, compiler: Compiler) -> None:
         expect_warnings(warned(folder, compiler, "main.o", "helper.os", *argv))
         expect_noted(folder, "main.o", "helper.os")
         expect_unseen(suite, folder)
-    # What is no object is not warned of, and no flag hides what was compiled.
+    # There is no warning about other files, and no flag hides a compiled one.
     flags = ["-fno-record-gcc-switches", "-DVALUE=1"]
     expect_warnings(warned(folder, compiler, *flags, "-c", "main.c", "helper.c"))
     libm = run([compiler.name, "-print-file-name=libm.so.6"], folder).stdout.decode().strip()
@@ -371,7 +371,7 @@ HOOKS = re.compile(r"^void (__sanitizer_syscall_\w+)\(", re.M)
 
 
 def check_asked_for(suite: Suite, folder: str, compiler: Compiler) -> None:
-    """The hooks of calls of the system, and the other names of what is wrapped: each is there, and can be called."""
+    """The hooks of calls of the system, and the other names of wrapped functions: each is there, and can be called."""
     header = "#include <sanitizer/linux_syscall_hooks.h>\n"
     write(folder, asked_c=f"#if __has_include(<sanitizer/linux_syscall_hooks.h>)\n{header}#endif\n")
     hooks = HOOKS.findall(run([compiler.name, "-E", "asked.c"], folder).stdout.decode())
@@ -609,7 +609,7 @@ def expect_said(said: Sequence[str], *pieces: str) -> None:
 
 
 def check_settings(suite: Suite, folder: str, program: str) -> None:
-    """What is no setting, or has a value that is none, is named once, and the program goes on."""
+    """An unknown setting, or an invalid value, is named once, and the program goes on."""
     for settings, pieces in (
         ({"ASANCOL_TRCE": "t.trace"}, ["ASANCOL_TRCE: there is no such setting; did you mean ASANCOL_TRACE?"]),
         ({"ASANCOL_NOTHING_LIKE_IT": ""}, ["ASANCOL_NOTHING_LIKE_IT: there is no such setting"]),

@@ -121,5 +121,5 @@ def fetch(archive: Archive, crate: Crate, to: str) -> None:
 
 
 def report_of(crate: Crate) -> str:
-    """What is reported of the planted bug, as real.py writes it: at its last line."""
+    """The report of the planted bug, as real.py writes it: at its last line."""
     return f"{crate.report} at planted.rs:{len(crate.planted.strip().splitlines())}"

@@ -13,7 +13,7 @@ from testing.lines import lines_of
 # How many operations a run has. Each makes some four events if all are recorded.
 OPERATIONS = 100_000
 SEEDS = (1, 2, 3)
-# At least so many of them are bad.
+# At least this many of them are bad.
 LEAST = OPERATIONS // 200
 # The smallest segment has room for all of this quarantine: so the same memory is handed out in any number of segments.
 QUARANTINE = "100000"
@@ -23,7 +23,7 @@ SEGMENTS = ("5000", "60000")
 
 
 class Fault(NamedTuple):
-    """What is wrong with an event. Of memory outside the heap there is no address: that varies from build to build."""
+    """The mistake of an event. Of memory outside the heap there is no address: that varies from build to build."""
 
     access: str
     size: Optional[int]

@@ -1,12 +1,12 @@
 #!/usr/bin/env python3
-"""Explores the orders in which threads can take the steps of the stream: each run of a scenario is one order, and what
-was recorded has to stand in the segments of all of them (explore/world.c).
+"""Explores the orders in which threads can take the steps of the stream: each run of a scenario is one order, and the
+records must be in the segments of all of them (explore/world.c).
 
 usage: recorder/tests/exploring.py [--compiler CC] [--runs N] [--preemptions N] [--seed N] [--rareness N] [NAME..]
 
 It builds the stream's own sources with the explorer and runs the scenarios of these names, or all. A search in depth
-takes all orders with so many preemptions (2), at most N runs. With --seed the orders are drawn instead, with a
-preemption at one of so many points (8). The steps of a run that is wrong are printed, and the status is 1.
+takes all orders with this many preemptions (2), at most N runs. With --seed the orders are drawn instead, with a
+preemption at one of this many points (8). The steps of a run that is wrong are printed, and the status is 1.
 """
 
 import os
@@ -53,7 +53,7 @@ def explore(program: str, argv: List[str]) -> None:
 
 
 def check_searched(_suite: Suite, folder: str, compiler: Compiler) -> None:
-    """All orders of each scenario with few preemptions, or the first so many."""
+    """All orders of each scenario with few preemptions, or the first this many."""
     explore(build_explorer(compiler.name, folder), [])
 
 

@@ -343,7 +343,7 @@ CLEAN(unpoisoned)
     drop(p);
 }
 
-/* Up to what is no address, and past it. */
+/* Up to the end of addresses, and past it. */
 TEST(poisoned_to_the_end, "", "end of addresses")
 {
     void *last = (void *)(uintptr_t)hide_size(((size_t)1 << 47) - 64);

@@ -36,7 +36,7 @@ def gap_of(size):
 
 
 def check_distances(suite, folder, program, sanitized, seed, steps):
-    """Loads near blocks of drawn sizes. What is in a live block is good, what is near one is bad, by AddressSanitizer's
+    """Loads near blocks of drawn sizes. Loads in a live block are good, those near one are bad, by AddressSanitizer's
     distances. The checker says the same of each as the recorder's shadow."""
     argv = [str(seed), str(steps)]
     ran = run([program, *argv], folder, ASANCOL_TRACE="t.trace")

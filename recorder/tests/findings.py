@@ -9,7 +9,7 @@ from support import TESTS, expect, run, side_of
 
 SOURCE = f"{TESTS}/findings.cpp"
 FAMILY, OF_NEW = "alloc-dealloc-mismatch", "new-delete-type-mismatch"
-# What is found.
+# The findings.
 CLASSES = {
     "malloc_delete": FAMILY, "malloc_delete_array": FAMILY, "calloc_delete": FAMILY, "strdup_delete": FAMILY,
     "new_free": FAMILY, "new_delete_array": FAMILY, "array_delete": FAMILY, "array_free": FAMILY,
@@ -34,7 +34,7 @@ CLASSES = {
     "no_memory": "out-of-memory",
     "clean": None,
 }
-# What is said of some.
+# The text of some.
 WORDS = {
     "aligned_alloc": "alignment 7 of 14 bytes in aligned_alloc",
     "aligned_alloc_size": "alignment 64 of 10 bytes in aligned_alloc: the size is no multiple of it",

@@ -52,7 +52,7 @@ static char *take(size_t size)
     char *block = malloc(size);
     expect(block != NULL, "the memory");
     block[0] = block[size - 1] = (char)size;
-    __asm__ volatile("" : "+r"(block)); /* or a compiler leaves out what is freed at once */
+    __asm__ volatile("" : "+r"(block)); /* or a compiler omits blocks that are freed at once */
     return block;
 }
 
@@ -70,7 +70,7 @@ static void together(unsigned count, void *(*start)(void *))
         pthread_join(threads[i], NULL);
 }
 
-/* So many bytes of mallocs and frees, with so many blocks live. */
+/* This many bytes of mallocs and frees, with this many blocks live. */
 static void churn(char **live, size_t count, size_t bytes)
 {
     for (size_t done = 0, size; done < bytes; done += size) {
@@ -453,8 +453,8 @@ static void locked_by_user(size_t of)
     locked(0);
 }
 
-/* A handler comes after each instruction of a malloc and a free, at one a time, and jumps out. What is allocated then
-   is a block as before. */
+/* A handler comes after each instruction of a malloc and a free, at one a time, and jumps out. The next allocation is a
+   block as before. */
 static sigjmp_buf before_call;
 static volatile long steps_left;
 

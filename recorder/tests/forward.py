@@ -1,5 +1,5 @@
-"""Tests of the allocator as it goes forward: what was freed long ago is found, memory stays bounded, and nothing is
-said of good programs."""
+"""Tests of the allocator as it goes forward: uses of blocks freed long ago are found, memory stays bounded, and nothing
+is said of good programs."""
 
 import glob
 import os
@@ -76,7 +76,7 @@ def check_alive(suite: Suite, folder: str, program: str) -> None:
 
 
 def check_good(suite: Suite, folder: str, program: str) -> None:
-    """What is good has no report, with any quarantine."""
+    """Good accesses have no report, with any quarantine."""
     for words in ("give", "calls", "handlers 1", "handlers 4", "distinct", "limited"):
         for quarantine in QUARANTINES:
             settings = {"ASANCOL_QUARANTINE": quarantine} if quarantine else {}
@@ -84,8 +84,8 @@ def check_good(suite: Suite, folder: str, program: str) -> None:
 
 
 def check_freed(suite: Suite, folder: str, program: str) -> None:
-    """What was freed is found in children, after threads have ended, in large blocks, if memory is locked, once notes
-    have gone back, and after handlers have jumped out of any instruction."""
+    """Uses of freed blocks are found in children, after threads have ended, in large blocks, if memory is locked, once
+    notes have gone back, and after handlers have jumped out of any instruction."""
     for words, number in (("forks 3", 300), ("shorts 2000", 20), ("sizes", 24), ("locked", 1), ("locked_by_user", 1),
                           ("forgotten", 8), ("stepped", 1)):
         expect(found(suite, folder, program, words).kinds, freed(number), words)

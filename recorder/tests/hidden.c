@@ -1,6 +1,6 @@
 /* Accesses that are neither a plain load or store to a compiler nor, once it has optimised, a call (hidden.def). The
    name of each that this processor can do is printed before it is done. With `good` all blocks are large, and at the
-   end comes a sum of what was read and written. */
+   end comes a sum of the values read and written. */
 #define _GNU_SOURCE
 #include <complex.h>
 #include <x86intrin.h>

@@ -11,7 +11,7 @@ from support import CC, TESTS, Compiler, Suite, Trace, expect, has_plugin, leave
 PLUGIN = "libasancol_gcc.so"
 ROW = re.compile(r"^(BUG|GOOD)\((\w+)", re.M)
 
-# RECORDER.md names them under what is not recorded.
+# RECORDER.md lists them as not recorded.
 NOT_BY_CLANG = {"compress", "expand", "narrow", "gather_512", "scatter"}
 
 
@@ -54,7 +54,7 @@ def lines_found(folder: str, known: Set[str], *argv: str) -> Tuple[bytes, Set[st
 
 
 def check_c(suite: Suite, folder: str, compiler: Compiler, plain: str, flags: Sequence[str]) -> None:
-    """Each bug has a report at its line. What is good has none, and the same results as without checks."""
+    """Each bug has a report at its line. A good one has none, and the same results as without checks."""
     rows = rows_of("hidden.def")
     compiler.c(folder, [f"{TESTS}/hidden.c"], f"{folder}/hidden", "-w", *flags)
     known = {line for _, line in rows.values()}

@@ -603,7 +603,7 @@ static void many(void)
         give_back(make(8));
 }
 
-/* What was recorded has been sent when a kill comes. */
+/* All records have been sent when a kill comes. */
 
 static void is_killed_after_fault(void)
 {
@@ -750,7 +750,7 @@ static void changes_root(void)
     wait_for(child);
 }
 
-/* Leaves a list of what is mapped, with what of it a core has, and where two texts are; and then the core. */
+/* Leaves a list of the mappings, with what of it a core has, and where two texts are; and then the core. */
 static void leaves_a_core(void)
 {
     char text[4096], on_stack[32], *on_heap = make(32);

@@ -145,7 +145,7 @@ class Hub:
 
 def run_under(folder: str, argv: List[str], status: int = 0, gives: bool = True,
               **settings: str) -> Tuple[List[Peer], bytes]:
-    """Runs a command under a hub, which gives a memory to who asks, or none. What has connected, and what was said."""
+    """Runs a command under a hub, which gives a memory to who asks, or none. The connections, and the messages."""
     with Hub(f"{folder}/hub{next(NUMBERS)}", gives=gives) as hub:
         ran = run(argv, folder, ASANCOL_HUB=hub.path, **settings)
         expect(ran.returncode, status, f"status of {argv}: {ran.stderr.decode()}")
@@ -409,7 +409,7 @@ def build_id(path: str) -> str:
 
 
 def check_modules(suite: Suite, folder: str, program: str, compiler: Compiler) -> None:
-    """Build ids of what is loaded at the start and later; and the globals of a library, until it is closed."""
+    """Build ids of modules loaded at the start and later; and the globals of a library, until it is closed."""
     flags = ["-fPIC", "-shared", "-Wl,--build-id", "-Wl,-z,defs"]
     compiler.c(folder, [f"{TESTS}/hub_library.c"], f"{folder}/libhub.so", "-w", *flags)
     shutil.copy(program, f"{folder}/program")
@@ -467,7 +467,7 @@ def check_many_files(suite: Suite, folder: str, program: str) -> None:
     try:
         while held[-1] < FD_SETSIZE:
             held.append(os.dup(held[0]))
-        os.link(program, f"{folder}/program")  # what was just written can't be run while another test forks
+        os.link(program, f"{folder}/program")  # a program just written can't be run while another test forks
         peer = one(folder, ["./program", "behind"])
         expect(len(faults_of(peer)), 1, "faults")
         expect([it for it in files_open() if it.startswith(folder)], [], "what was sent and is still open")
@@ -692,7 +692,7 @@ def check_closed(suite: Suite, folder: str, program: str) -> None:
 
 
 def check_gone(suite: Suite, folder: str, program: str) -> None:
-    """A hub that is gone: the program runs on, and what is lost is noted."""
+    """A hub that is gone: the program continues, and the loss is noted."""
     argv, path = [program, "many_faults"], f"{folder}/hub"
     with Hub(path) as hub, Started(argv, env=environment(ASANCOL_HUB=path), stderr=subprocess.PIPE) as process:
         peer = hub.wait_for_memory()
@@ -704,7 +704,7 @@ def check_gone(suite: Suite, folder: str, program: str) -> None:
 
 
 def check_sent(suite: Suite, folder: str, program: str) -> None:
-    """What was recorded some time before a kill was sent, and a fault at once."""
+    """Events recorded some time before a kill were sent, and a fault at once."""
     peer = one(folder, [program, "is_killed_after_fault"], -9)
     expect((check(suite, folder, peer)[1], len(faults_of(peer))), (["store 1 +8 heap-buffer-overflow"], 1), "a fault")
     peer = one(folder, [program, "is_killed_after_a_while"], -9, ASANCOL_FULL="1")

@@ -21,7 +21,7 @@ OWN_FRAME = re.compile(r"^ +#\d+ 0x\w+ in (.*) (?!/rustc/)\S+:\d+(?::\d+)?(?: \(
 WHERE = re.compile(r"^  0x\w+ is (.*)$", re.M)
 END_OF_WHERE = re.compile(r"(on the stack|a global variable), .*")
 
-# What is said of each bug: the class and the access, the function, and where the bad byte is.
+# The report of each bug: the class and the access, the function, and where the bad byte is.
 Said = Tuple[str, str, str]
 RUST: Dict[str, Optional[Said]] = {
     "vector": ("heap-buffer-overflow: load of 1 byte", "bug::past_a_vector",
@@ -111,7 +111,7 @@ def cargo(folder: str, *argv: str, status: int = 0, **settings: str) -> Tuple[st
 
 
 def built(folder: str, kind: str, name: str = "bug") -> str:
-    """The path of what was built for the target."""
+    """The path of the output for the target."""
     (path,) = glob.glob(f"{folder}/target/asancol/*-*/{kind}/{name}")
     return path
 
@@ -409,7 +409,7 @@ TOOLS = {"asancol-cargo": "cargo", "asancol-fc": "gfortran", "ASANCOL_CC=gdc": "
 
 
 def check_page(suite: Suite, folder: str) -> None:
-    """The commands of the page: what is clean is complete, except D's."""
+    """The commands of the page: clean programs are complete, except D's."""
     with open(f"{TESTS}/bug.f90", encoding="utf-8") as file:
         write(folder, program_f90=file.read(), program_d=D_PROGRAM)
     crate(folder, lib_rs="pub fn one() -> i32 { 1 }\n#[test] fn is_one() { assert_eq!(one(), 1) }\n")

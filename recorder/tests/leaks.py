@@ -357,7 +357,7 @@ int main(int count, char **argv) {
 
 
 def check_stuck(suite: Suite, folder: str, compiler: Compiler) -> None:
-    """Nothing leaks of which nobody knows, and the process ends as without the recorder."""
+    """Nothing leaks unnoticed, and the process ends as without the recorder."""
     write(folder, stuck_c=STUCK)
     compiler.c(folder, ["stuck.c"], "stuck", "-O1", "-w", "-pthread")
     for how in ("vfork", "blocks"):

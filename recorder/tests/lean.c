@@ -126,7 +126,7 @@ static void jumps(int rounds)
     }
 }
 
-/* A timer's handler ends the process in the middle of the allocator, and what is called at exit goes wrong. */
+/* A timer's handler ends the process in the middle of the allocator, and an exit handler fails. */
 
 static char *volatile freed_twice;
 
@@ -259,7 +259,7 @@ static void wrong_after(int rounds)
     waitpid(child, NULL, 0);
 }
 
-/* No more memory from now on than so many megabytes. */
+/* No more memory from now on than this many megabytes. */
 static void limit_memory(int megabytes)
 {
     struct rlimit limit = {0, RLIM_INFINITY};
@@ -273,7 +273,7 @@ static void limit_memory(int megabytes)
     setrlimit(RLIMIT_DATA, &limit);
 }
 
-/* Lets the process have so many MB more, and says how many blocks it then gets in memory of smaller ones that were
+/* Lets the process have this many MB more, and says how many blocks it then gets in memory of smaller ones that were
    freed. */
 static void limited(int rounds)
 {
@@ -294,7 +294,7 @@ static void limited(int rounds)
     printf("%d\n", count);
 }
 
-/* As many blocks of a size as there is memory for, but no more than so many bytes, of zeros: how many megabytes. */
+/* As many blocks of a size as there is memory for, but no more than this many bytes, of zeros: how many megabytes. */
 static long filled(size_t size, size_t most)
 {
     char **last = NULL;
@@ -312,7 +312,7 @@ static long filled(size_t size, size_t most)
     return (long)(bytes >> 20);
 }
 
-/* No more memory than so many megabytes, most of which small blocks have had before. */
+/* No more memory than this many megabytes, most of which small blocks have had before. */
 static void joined(int rounds)
 {
     static const size_t sizes[] = {300000, 2000000, 20000000, 1000, 40000, 300000, 700000};

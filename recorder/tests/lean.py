@@ -1,4 +1,4 @@
-"""Tests of lean recording: what is good leaves no record, and faults are those of a full recording."""
+"""Tests of lean recording: good events leave no record, and faults are those of a full recording."""
 
 from typing import Dict, Sequence
 
@@ -151,7 +151,7 @@ def check_joined(suite: Suite, folder: str, program: str) -> None:
 
 
 def check_hub(suite: Suite, folder: str, program: str) -> None:
-    """What is in the way of a block begins another connection of the process. Each fault is there once."""
+    """A block in the way begins another connection of the process. Each fault is there once."""
     peers, said = hub.run_under(folder, [program, "turns", "500"], ASANCOL_QUARANTINE="200", ASANCOL_LIMIT="100")
     sides = [it.side() for it in peers]
     expect((said, len(peers) > 1), (b"", True), f"{len(peers)} connections")

@@ -140,8 +140,8 @@ def check_start(suite: Suite, folder: str, compiler: Compiler) -> None:
 
 
 def check_others(suite: Suite, folder: str, compiler: Compiler) -> None:
-    """What is not the C library's function of today is called as it was: an old version, that of a library which comes
-    first, the program's own, and those of another namespace."""
+    """A function other than the C library's current one is called unchanged: an old version, that of a library which
+    comes first, the program's own, and those of another namespace."""
     write(folder, old_c=OLD, own_c=OWN, before_c=BEFORE, apart_c=APART)
     for link, flags in LINKS.items():
         plain(compiler, folder, "libplain.so", "-DOLD", *flags)

@@ -32,7 +32,7 @@ static void handle(int number)
     handled++;
 }
 
-/* The block, of which the compiler does not know how large it is: else it would refuse what is not done in full. */
+/* The block, of which the compiler does not know how large it is: else it would refuse a partial operation. */
 static char *hidden(size_t size)
 {
     char *volatile made = malloc(size);
@@ -270,7 +270,7 @@ static void locks(void)
     errno = 0;                                                                                                         \
     printf("%d ", (call) < 0 ? errno : 0)
 
-/* The system answers EFAULT, and nothing reads what is not there. */
+/* The system answers EFAULT, and nothing reads missing memory. */
 static void refused(void)
 {
     char *nowhere = (char *)8, *words[2] = {nowhere, NULL};

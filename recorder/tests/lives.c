@@ -652,7 +652,7 @@ static void loses_its_trace_at_the_end(void)
         fail("truncate");
 }
 
-/* A table that is large and nearly empty takes no more memory than what is used of it. */
+/* A table that is large and nearly empty takes no more memory than its used part. */
 static void keeps_little(void)
 {
     enum { MAX_KB = 100 << 10 };
@@ -665,7 +665,7 @@ static void keeps_little(void)
     if (getrusage(RUSAGE_SELF, &after) != 0 || after.ru_maxrss - before.ru_maxrss > MAX_KB)
         exit(9);
     free(p);
-    /* What was used before is zeros again. */
+    /* Memory used before is zeros again. */
     p = hide(malloc(1 << 20));
     memset(p, 1, 1 << 20);
     free(p);

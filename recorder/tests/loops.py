@@ -20,7 +20,7 @@ SEEDS = (1, 2, 3, 4)
 # The arguments of each run, and how many good tests it has at least.
 RUNS = [(["table"], 1000), (["wild"], 0), *((["drawn", str(seed), "200"], 100) for seed in SEEDS),
         (["drawn", "5", "200", "threads"], 100)]
-# What differs from build to build: the process, code, and what is not in the heap.
+# What differs from build to build: the process, code, and memory outside the heap.
 VARIES = [(r"==\d+==", "==PID=="), (r" 0x[0-9a-f]{3,8} in ", " CODE in "), (r"0x[57][0-9a-f]{11}\b", "ADDRESS"),
           (r"process \d+ \S+:", "process:")]
 
@@ -31,7 +31,7 @@ def has_loops(compiler: Compiler) -> bool:
 
 
 def ran(folder: str, suite: Suite, program: str, words: Sequence[str]) -> Tuple[str, str, int]:
-    """What a run prints, what is reported of it, and how many good tests there were."""
+    """The output of a run, its reports, and how many good tests there were."""
     taken = f"{folder}/taken"
     done = run([RUN, "--", program, *words], folder, ASANCOL=suite.asancol, TAKEN=taken)
     said = done.stderr.decode()

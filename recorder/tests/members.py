@@ -9,10 +9,10 @@ from typing import List, Set
 from support import CC, RECORDER, Compiler, Suite, build, expect, reports, run, side_of, write
 from testing.programs import call
 
-# So many bytes may the smallest program have more than a plain one.
+# This many bytes may the smallest program have more than a plain one.
 MOST_MORE = 380_000
 
-# So many KB may be resident of a process that does little.
+# This many KB may be resident of a process that does little.
 MOST_RESIDENT = 8_000
 
 SMALLEST = "int main(void) { return 0; }\n"
@@ -81,7 +81,7 @@ def check_size(suite: Suite, folder: str, compiler: Compiler) -> None:
     write(folder, small_c=SMALLEST)
     compiler.c(folder, ["small.c"], "plain", "-O1", native=True)
     compiler.c(folder, ["small.c"], "small", "-O1")
-    for word in ("--strip-debug", "--strip-all"):  # what is installed has no debug information
+    for word in ("--strip-debug", "--strip-all"):  # installed files have no debug information
         build(["strip", word, "plain", "small"], folder)
         more = os.path.getsize(f"{folder}/small") - os.path.getsize(f"{folder}/plain")
         expect(more < MOST_MORE, True, f"{word}: {more} bytes more")
@@ -108,7 +108,7 @@ def check_groups(suite: Suite, folder: str, compiler: Compiler) -> None:
 
 
 def check_weak(suite: Suite, folder: str, compiler: Compiler) -> None:
-    """What is asked for weakly brings nothing in by itself."""
+    """A weak reference brings nothing in by itself."""
     write(folder, weak_c=WEAK)
     for words in ("", "-Wl,-s", "-Wl,--gc-sections"):
         compiler.c(folder, ["weak.c"], "weak", "-fno-builtin", *words.split())
@@ -131,7 +131,7 @@ def check_late(suite: Suite, folder: str, compiler: Compiler) -> None:
 
 
 def check_links(suite: Suite, folder: str, compiler: Compiler) -> None:
-    """What is linked of objects runs the compiler once, and asks it nothing before."""
+    """A link of objects runs the compiler once, and asks it nothing before."""
     write(folder, calls_c=CALLS, opens_c=OPENS, weak_c=WEAK)
     write(folder, counts_sh=f'#!/bin/sh\necho "$*" >> {folder}/runs\nexec {compiler.name} "$@"\n')
     os.chmod(f"{folder}/counts.sh", 0o755)

@@ -26,7 +26,7 @@ static void want(int holds, const char *what)
 
 #define WANT(condition) want(condition, #condition)
 
-/* What the system counts in pages, in MB. Its first number is all addresses, and its second what is resident. */
+/* What the system counts in pages, in MB. Its first number is all addresses, and its second the resident ones. */
 static long counted(int number)
 {
     char text[200] = "", *at = text;
@@ -50,7 +50,7 @@ static long faults(void)
     return used.ru_minflt;
 }
 
-/* The most that was resident since the program began. getrusage counts what was there before, too. */
+/* The most that was resident since the program began. getrusage counts earlier memory, too. */
 static long most_resident(void)
 {
     char line[200];
@@ -95,7 +95,7 @@ static void go_on(void)
     }
 }
 
-/* What is freed is gone after a while if the process goes on. Shadow stays. */
+/* Freed memory is gone after a while if the process goes on. Shadow stays. */
 static void falls(void)
 {
     long before = resident();
@@ -106,7 +106,7 @@ static void falls(void)
     WANT(resident() < before + 60);
 }
 
-/* What is freed and taken again costs no fault. */
+/* Memory that is freed and taken again costs no fault. */
 static void stays(void)
 {
     fill_and_free(10, 100 * KB);

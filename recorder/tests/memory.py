@@ -7,7 +7,8 @@ NAMES = ("falls", "stays", "never_grows", "grows_by_doubling", "falls_at_once_if
 
 
 def check_memory(suite: Suite, folder: str, program: str, name: str, is_recorded: bool) -> None:
-    """If it is recorded, nothing is held in the quarantine: what is freed is free at once, as if nothing is."""
+    """If it is recorded, nothing is held in the quarantine: freed blocks are free at once, as if nothing is
+    recorded."""
     settings = {"ASANCOL_TRACE": "%p.trace", "ASANCOL_QUARANTINE": "0"} if is_recorded else {}
     ran = run([program, name], folder, **settings)
     expect((ran.returncode, ran.stderr), (0, b""), "the program")

@@ -20,7 +20,7 @@ double read(double one, double other)
 {
     return one + other;
 }
-/* No address of a lock: among them what is past the last one, and what reads as one below it. */
+/* No address of a lock: among them the one past the last, and one that reads as one below it. */
 long sem_post(long number, double other)
 {
     return number + (long)other;

@@ -1,4 +1,4 @@
-"""What is preloaded: modules of asancol-cc in programs that it did not build."""
+"""The preloaded recorder: modules of asancol-cc in programs that it did not build."""
 
 import glob
 import os

@@ -68,7 +68,7 @@ static void on_signal(int number)
     siglongjmp(again, number);
 }
 
-/* What was not set is the default, and is so again. */
+/* An unset one is the default, and becomes it again. */
 static int with_signals(void)
 {
     struct sigaction old;

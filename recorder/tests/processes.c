@@ -165,7 +165,7 @@ static int has_other_title(char **argv)
     return end_of(child);
 }
 
-/* What is counted. */
+/* The counted events. */
 
 static int forks_once(void)
 {

@@ -25,7 +25,7 @@ FAULTS: Dict[str, List[List[str]]] = {
 
 
 class Most(NamedTuple):
-    """So many calls of the system more than the same program without the recorder may there be: from the start to the
+    """This many calls of the system more than the same program without the recorder may there be: from the start to the
     end of a process, if it has 1,000 blocks too, from a fork to the end of the child, for an exec that finds no file,
     and from a fork to an exec of the child."""
 

@@ -16,8 +16,8 @@ IN_MAPS = range(6, 8)
 NUMBERS = {"folder": "folder", "file": "file", "size": "16", "count": "2", "length": "16", "room": "64", "most": "16",
            "pieces": "2"}
 OF_FUNCTIONS = {("prctl", "option"): "15", ("name_to_handle_at", "flags"): "0"}
-# What is not tried: it waits, changes the machine or the limits, or needs more than memory; the recorder has a stack
-# for handlers.
+# Calls that are not tried: a call waits, changes the machine or the limits, or needs more than memory; the recorder has
+# a stack for handlers.
 LEFT_OUT = {"sigwait", "sigwaitinfo", "getpass", "clock_settime", "iconv", "sigaltstack", "prlimit", "prlimit64"}
 NO_MEMORY = re.compile(r"\b(FILE|DIR|regex_t|random_data|drand48_data) \*")
 # These read what nobody needs, as a set of letters that are looked for in an empty text.

@@ -77,7 +77,7 @@ APART static void as_large()
     keep(buffer);
 }
 
-// What was left below its frame is given back.
+// Frames abandoned below its own are given back.
 APART static void next()
 {
     char buffer[8];

@@ -1,4 +1,4 @@
-"""Uses of variables of functions that have returned: found in what was compiled for it, as AddressSanitizer finds them,
+"""Uses of variables of functions that have returned: found in code compiled for it, as AddressSanitizer finds them,
 and nothing else is said of frames that are left, threads, forks and coroutines."""
 
 import os
@@ -12,7 +12,7 @@ OPTION = "-fsanitize-address-use-after-return="
 ASKED = OPTION + "runtime"
 RETURNED, OVERFLOW = "stack-use-after-return", "stack-buffer-overflow"
 
-# The class of each case, what is said of the bad byte, and whether AddressSanitizer says the same.
+# The class of each case, the description of the bad byte, and whether AddressSanitizer says the same.
 TEXT = ("byte 2 of 'buffer' (24 bytes) on the stack, declared in line N, whose function has returned, "
         "in frame of text(int)")
 LEFT = ("byte 2 of 'buffer' (24 bytes) on the stack, declared in line N, whose function has returned, "

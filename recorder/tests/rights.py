@@ -37,7 +37,7 @@ WAYS = {
     "capabilities": ["setcap", "cap_net_bind_service+ep"],
 }
 
-# What is set for it. A hub has its marks beside its path.
+# Its settings. A hub has its marks beside its path.
 SETTINGS = (
     {"ASANCOL_TRACE": "%p.trace", "ASANCOL_LOG": "said", "ASANCOL_HALT": "1", "ASANCOL_NONE": "1"},
     {"ASANCOL_HUB": "{folder}/hub-1", "ASANCOL_HALT": "1"},

@@ -1,4 +1,4 @@
-/* Programs of many events, which go on in segment after segment. Each knows what is wrong in it: a number of rounds and
+/* Programs of many events, which go on in segment after segment. Each knows its bugs: a number of rounds and
    the name of a bug are its arguments. */
 #include <pthread.h>
 #include <signal.h>

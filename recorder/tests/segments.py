@@ -1,4 +1,4 @@
-"""Tests of what goes on past the limit of events: each segment is a whole trace, and has what was wrong in it, once."""
+"""Tests of what goes on past the limit of events: each segment is a whole trace, and has its bugs, once."""
 
 import glob
 import os
@@ -121,7 +121,7 @@ def check_early(suite: Suite, folder: str, program: str) -> None:
 
 
 def check_long_ago(suite: Suite, folder: str, program: str) -> None:
-    """An access to what was released before the segment began is found."""
+    """An access to memory released before the segment began is found."""
     segments = record(suite, folder, [program, "long_ago", "3000", "0"], 500)
     expect(kinds_of(segments), {"store use-after-poison": 1}, "reports")
 
@@ -193,7 +193,7 @@ def check_killed(suite: Suite, folder: str, program: str) -> None:
 
 
 def check_killed_anywhere(suite: Suite, folder: str, program: str) -> None:
-    """SIGKILL at a random moment, which is in a switch as often as not: what is there does not read as whole."""
+    """SIGKILL at a random moment, which is in a switch as often as not: the rest does not read as complete."""
     draws = random.Random(1)
     for _ in range(20):
         for old in glob.glob(f"{folder}/t.*"):

@@ -29,7 +29,7 @@ RUN = f"{os.path.dirname(RECORDER)}/run/asancol-run"
 
 
 def by_files(asancol: str, argv: List[str], folder: str) -> str:
-    """What is wrong with the files of a run, or nothing."""
+    """The mistake in the files of a run, or nothing."""
     ran = subprocess.run(argv, env=environment(ASANCOL_TRACE=f"{folder}/t.trace"), capture_output=True, check=False)
     if ran.returncode != 0 or ran.stderr:
         return f"status {ran.returncode}: {ran.stderr.decode()}"

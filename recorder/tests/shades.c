@@ -56,7 +56,7 @@ static void compare_first_bad(uint64_t at, uint64_t size)
     compare("first bad", at, size, at / GRANULE, (unsigned)shadow_first_bad(at, size), (unsigned)first);
 }
 
-/* Of so many granules. */
+/* Of this many granules. */
 static void compare_region(const unsigned char *before, size_t count, uint64_t at, uint64_t size)
 {
     memcpy(memory, before, count);
@@ -126,7 +126,7 @@ static uint64_t draw(uint64_t below)
     return state % below;
 }
 
-/* Memory where one granule in so many may be bad. */
+/* Memory where one granule in this many may be bad. */
 static void draw_memory(unsigned char *at, size_t count, uint64_t rareness)
 {
     for (size_t i = 0; i < count; i++)

@@ -1,4 +1,4 @@
-/* Handlers of signals, one way a run: `signals NAME`. What is printed is the same without the recorder. */
+/* Handlers of signals, one way a run: `signals NAME`. The output is the same without the recorder. */
 #define _GNU_SOURCE
 #include <errno.h>
 #include <pthread.h>

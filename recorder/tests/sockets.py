@@ -45,7 +45,7 @@ def check_two_at_a_socket(suite, folder, program):
 
 
 def check_silent_reader(suite, folder, program, is_socket):
-    """Nobody reads what is written: the process need not wait, and does not see that the recorder tried."""
+    """Nobody reads the output: the process need not wait, and does not see that the recorder tried."""
     if is_socket:
         reader = socket.socket(socket.AF_UNIX)
         reader.bind(f"{folder}/out")

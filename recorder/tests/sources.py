@@ -14,7 +14,7 @@ OUT = f"{RECORDER}/out/program"
 # Where the names of headers begin.
 ROOTS = ("-iquote", RECORDER, "-iquote", os.path.dirname(RECORDER))
 
-# What is no function, or the program's.
+# Names that are not functions, or are the program's.
 CONSTANT = set("_GLOBAL_OFFSET_TABLE_ _DYNAMIC __ehdr_start main asancol_checks asancol_register_early "
                "__lsan_is_turned_off asancol_every_call asancol_every_memcpy asancol_every_memmove "
                "asancol_every_memset __start_asancol_own_text __stop_asancol_own_text "
@@ -95,7 +95,7 @@ def parts_with_includes() -> Dict[str, Set[str]]:
 
 
 def check_layers(suite: Suite, folder: str) -> None:
-    """No part includes itself by others: what stands below calls what is above by a table (stream/state.h)."""
+    """No part includes itself by others: lower layers call higher ones by a table (stream/state.h)."""
     left = parts_with_includes()
     expect(len(left) > 50, True, "parts")
     while True:

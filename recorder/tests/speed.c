@@ -196,7 +196,7 @@ static long resident(void)
     return pages >> 8;
 }
 
-/* 200 MB that are allocated and freed, again and again. Returns what is resident then. */
+/* 200 MB that are allocated and freed, again and again. Returns the resident memory then. */
 static long sawtooth(long count)
 {
     enum { BLOCKS = 5000, SIZE = 40 << 10 };

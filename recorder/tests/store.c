@@ -1,5 +1,5 @@
 /* A small key-value store, as an example of a real program: it reads commands, keeps JSON values under keys, and prints
-   what is asked for.
+   the requested ones.
 
        set KEY JSON     get KEY [PATH]     del KEY      keys [FRONT]     merge KEY JSON
        push KEY JSON    sum KEY            size         sort KEY         copy KEY KEY
@@ -241,7 +241,7 @@ static int value_compare(const void *left, const void *right)
 
 struct reader {
     const char *next;
-    const char *wrong; /* what is wrong, once something is */
+    const char *wrong; /* the mistake, once there is one */
     int depth;
 };
 

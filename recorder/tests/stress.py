@@ -41,7 +41,7 @@ class Case(NamedTuple):
     source: str
     flags: List[str]
     argv: List[str]
-    part: int  # of all times, one in so many
+    part: int  # of all times, one in this many
     status: int
     reports: int
     classes: Dict[str, int]
@@ -100,7 +100,7 @@ def what_is_wrong(asancol: str, case: Case, program: str, folder: str) -> Option
 
 
 def run_once(asancol: str, case: Case, program: str) -> Optional[str]:
-    """What was wrong in a run, whose trace is then kept, or None."""
+    """The mistake in a run, whose trace is then kept, or None."""
     folder = tempfile.mkdtemp(prefix="asancol.")
     wrong = what_is_wrong(asancol, case, program, folder)
     if wrong is not None and os.path.exists(f"{folder}/t.trace"):

@@ -97,7 +97,7 @@ SAID = "1.251.5ff 12\n1.5ffword\n"
 
 
 def check_objects(suite: Suite, folder: str, compiler: Compiler, flags: "list[str]") -> None:
-    """In a host that was built so and in one that was not, where the library's own constructors take what the object
+    """In a host built with the recorder and in a plain one, where the library's own constructors take what the object
     has of it; with no name shown but one; and with nothing undefined."""
     write(folder, object_cpp=OBJECT, host_cpp=HOST, one_map="{ global: *6object*; local: *; };\n")
     link = ["-L.", "-lobject", "-Wl,-rpath,$ORIGIN"]
@@ -215,7 +215,7 @@ OTHERWISE = (["-S"], ["-E"], ["-fsyntax-only"], ["-M"], ["-c", "-flto"], ["-c", 
 
 
 def check_otherwise(suite: Suite, folder: str, compiler: Compiler) -> None:
-    """What is compiled in another way than to one object has its own strings; and an object that others hold too, as a
+    """A source compiled in another way than to one object has its own strings; and an object that others hold too, as a
     store of them, is not changed under them."""
     write(folder, main_cpp=SMALL, other_cpp=SMALL.replace("main", "other"))
     for words in OTHERWISE:

@@ -12,7 +12,7 @@ the status if there is no report.
 The suite `text` looks for what compiler-rt's tests look for with FileCheck, in the text of --log-path.
 
 For each suite it prints how many tests have the same, another class or line, no report, a false one, or were left out
-since they are about what is not claimed (tables.py). Each test that is not the same is named, with the reason if it is
+since they are outside the claims (tables.py). Each test that is not the same is named, with the reason if it is
 known. The last line is 'N passed, M failed': a known one passes, if it is still so. A word chooses a suite, or tests
 whose names have it. Allow it an hour, and more beside other work.
 """
@@ -52,7 +52,7 @@ def do(job: Job) -> Outcome:
 
 
 def is_passed(outcome: Outcome) -> bool:
-    """Whether a test has the same, or is known not to have it. It prints what is not the same."""
+    """Whether a test has the same, or is known not to have it. It prints the differences."""
     known = row_for(KNOWN, outcome)
     if outcome.kind in (SAME, LEFT_OUT):
         if known:

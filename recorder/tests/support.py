@@ -19,7 +19,7 @@ REDZONE = 32
 
 
 def limited(events):
-    """Settings under which a recording ends after so many events, since there is one segment."""
+    """Settings under which a recording ends after this many events, since there is one segment."""
     return {"ASANCOL_LIMIT": str(events), "ASANCOL_SEGMENTS": "0"}
 
 
@@ -135,7 +135,7 @@ def same_as_sanitizer(text, said):
 
 
 class Suite(testing.Suite):
-    """The tests of the recorder, for each compiler; the program that checks what is recorded; and a folder for the
+    """The tests of the recorder, for each compiler; the program that checks recordings; and a folder for the
     programs that several tests run."""
 
     def __init__(self, asancol, words):

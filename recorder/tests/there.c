@@ -1,4 +1,4 @@
-/* What is said of memory at addresses that anything may have: those at both ends, of a page without access, and of
+/* The description of memory at arbitrary addresses: those at both ends, of a page without access, and of
    none. */
 #define _GNU_SOURCE
 #include <stdio.h>

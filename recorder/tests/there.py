@@ -1,5 +1,5 @@
-"""Tests of what the recorder reads at addresses that it was given, or guesses: no program dies of that; and of what is
-said if one does."""
+"""Tests of what the recorder reads at addresses that it was given, or guesses: no program dies of that; and of the
+message if one does."""
 
 import re
 import signal

@@ -126,7 +126,7 @@ static void more_than_listed(void)
         run(use, NULL);
 }
 
-/* With so many events in between that a segment ends. */
+/* With this many events in between that a segment ends. */
 static void apart(void)
 {
     prctl(PR_SET_NAME, "boss");

@@ -56,7 +56,7 @@ def text_of_traces(folder: str) -> None:
 
 @report_test
 def files_of_processes(folder: str) -> None:
-    """Each process has a file, of a trace and of a result; what was there before goes."""
+    """Each process has a file, of a trace and of a result; earlier content is removed."""
     one_trace(folder)
     for words in (("--trace", "a.trace", "--json", "result.jsonl"), ("result.jsonl",)):
         with open(f"{folder}/log.7", "w", encoding="utf-8") as file:
@@ -69,7 +69,7 @@ def files_of_processes(folder: str) -> None:
 
 @report_test
 def files_of_what_counts(folder: str) -> None:
-    """What is suppressed is in no file, and what can't be written is said."""
+    """A suppressed report is in no file, and what can't be written is said."""
     one_trace(folder)
     with open(f"{folder}/rules", "w", encoding="utf-8") as file:
         file.write("at:heap-use-after-free:use\n")

@@ -14,7 +14,7 @@ from testing.programs import Started, killed_after
 
 NAMES = ("chromium", "chromium-browser", "google-chrome")
 
-# What is asked of the page, one after the other.
+# The questions to the page, one after the other.
 SCRIPT = r"""
 (() => {
   const get = id => document.getElementById(id);
@@ -52,7 +52,7 @@ SCRIPT = r"""
 })()
 """
 
-# What is wrong with how the page looks: text that is hard to read, that is cut or leads out of the window, or that lies
+# Flaws in the look of the page: text that is hard to read, that is cut or leads out of the window, or that lies
 # on other text.
 LOOKS = r"""
 (() => {
@@ -190,7 +190,7 @@ def value_of(browser: Browser, session: str, script: str) -> Any:
 
 
 def look(tool: str, folder: str, page: str) -> Dict[str, Any]:
-    """Opens a page of a folder, and returns what was seen there."""
+    """Opens a page of a folder, and returns the observations."""
     browser = Browser(tool, folder)
     try:
         session = open_page(browser, f"{folder}/{page}")

@@ -292,8 +292,8 @@ def order_of_processes(folder: str) -> None:
 
 
 def leaking(folder: str, name: str, *lost: Tuple[int, int]) -> None:
-    """Leaves the result of a run in which each process has lost so many bytes in so many blocks at one place, and half
-    of them at another."""
+    """Leaves the result of a run in which each process has lost this many bytes in this many blocks at one place, and
+    half of them at another."""
     program = build(folder)
     feed = Feed(folder, "--leaks=yes", "--json", f"{name}.json")
     feed.begin(name)

@@ -4,7 +4,7 @@
 usage: report/tests/check.py [--list] [--junit FILE] [WORD..]
 
 A word chooses the test whose name it is, or else those whose names have it. The last line is 'N passed, M failed', and
-the status is 1 if a test failed. What is not there (a symbolizer, jsonschema, Chromium) is said in a line, and left
+the status is 1 if a test failed. A missing tool (a symbolizer, jsonschema, Chromium) is named in a line, and left
 out. `make check-run` runs these too.
 """
 

@@ -144,7 +144,7 @@ def calls_that_come_again_are_one_line(folder: str) -> None:
 
 @report_test
 def crash_is_suppressed_by_its_class(folder: str) -> None:
-    """What is said of reports alone, or of a whole library, is not meant for crashes."""
+    """A rule for reports alone, or for a whole library, is not meant for crashes."""
     feed_crashes(folder, "--json", "a.jsonl").end()
     for rule, says, lines in (
         ("at:SEGV:use@program.c", "all complete, 1 crashed, 2 crashes suppressed", 1),

@@ -1,4 +1,4 @@
-"""Tests of results that are not whole: whatever is missing, nothing is called clean, and what is there is reported."""
+"""Tests of results that are not whole: whatever is missing, nothing is called clean, and the rest is reported."""
 
 import json
 import os

@@ -1,4 +1,4 @@
-"""How the page looks, in a real browser: one report, many, crashes, nothing found, and what was incomplete."""
+"""How the page looks, in a real browser: one report, many, crashes, nothing found, and incomplete runs."""
 
 import html.parser
 import json

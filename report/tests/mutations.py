@@ -141,7 +141,7 @@ def damage_of(random: Random, case: Case) -> bytes:
 
 
 def damage(count: int, seed: int) -> Tuple[int, int]:
-    """Reads so many damaged files, and returns how many passed and failed. Those that failed are shown."""
+    """Reads this many damaged files, and returns how many passed and failed. Those that failed are shown."""
     passed = failed = 0
     room = "/dev/shm" if os.access("/dev/shm", os.W_OK) else None
     with tempfile.TemporaryDirectory(prefix="asancol.", dir=room) as folder:

@@ -212,7 +212,7 @@ def junit_has_its_schema(folder: str) -> None:
 
 @report_test
 def junit_names_the_tests(folder: str) -> None:
-    """What is one command for asancol-run has many tests: which of them it was is said by the words of the process."""
+    """One command for asancol-run has many tests: which of them it was is said by the words of the process."""
     feed = Feed(folder, "--junit", "out.xml", "--html", "out.html", "--sarif", "out.sarif")
     feed.begin()
     feed.process(0, FREED + END, command=["./tests", "Parser", "handles <"])

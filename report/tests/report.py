@@ -185,7 +185,7 @@ def trace_has_any_name(folder: str) -> None:
 
 @report_test
 def trace_is_interrupted(folder: str) -> None:
-    """What is typed at the terminal ends all that checks a trace."""
+    """Ctrl-C at the terminal ends all that checks a trace."""
     write_trace(folder, "a.trace", FREED + END)
     reports.write_text(f"{folder}/asancol", f"#!/bin/sh\necho $$ > {folder}/checker\nexec sleep 99\n", 0o755)
     started = Started([reports.REPORT, "--trace", "a.trace"], cwd=folder, env=reports.settings_in(folder),
@@ -273,7 +273,7 @@ def run_is_fed(folder: str) -> None:
 
 @report_test
 def run_ends(folder: str) -> None:
-    """What is not seen is said, and is status 3: as asancol-run says it, or else by the field that has it."""
+    """An unseen part is reported, with status 3: as asancol-run says it, or else by the field that has it."""
     ends: List[Tuple[Dict[str, Any], int, str]] = [
         ({}, 0, "asancol: no reports; 1 process, 9 events; all complete\n"),
         ({"timed_out": True, "running": True, "troubles": ["INCOMPLETE: why", "and why"]}, 3,

@@ -105,8 +105,8 @@ def baseline(folder: str) -> None:
 
 @report_test
 def run_has_bad_rules(folder: str) -> None:
-    """What is wrong there is said at once, and after the summary what was not used. What can be used is, also of the
-    same file."""
+    """A mistake there is printed at once, and unused rules after the summary. The others are used, also of the same
+    file."""
     feed = Feed(folder, "--json", "known.jsonl")
     feed.begin()
     feed.process(0, FREED + END)

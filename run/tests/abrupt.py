@@ -48,7 +48,7 @@ def check_exits(suite: Suite, folder: str, program: str) -> None:
 
 
 def check_bug(suite: Suite, folder: str, program: str) -> None:
-    """What was found before counts, with its line, and all outputs name the end."""
+    """Earlier findings count, with its line, and all outputs name the end."""
     outputs = [f"--{kind}={folder}/{kind}" for kind in ("json", "junit", "sarif", "html")]
     ran = suite.run(*outputs, "--", program, "bug", ASANCOL_REPORT=REPORT)
     expect_ran(ran, 99, "heap-buffer-overflow: store of 1 byte", "in store_past", "abrupt.c:", SEEN)
@@ -124,7 +124,7 @@ def check_daemon(suite: Suite, folder: str, program: str) -> None:
 
 
 def killed(suite: Suite, argv: List[str], least: float, most: float, **settings: Any) -> List[str]:
-    """Runs a program, and kills it some time after it is ready: the status, and what was printed."""
+    """Runs a program, and kills it some time after it is ready: the status, and the output."""
     line = f"sh -c 'echo $$; exec {' '.join(argv)}' & wait $!; true"
     started = suite.start("--", "setsid", "sh", "-c", line, **settings)
     number = int(started.stdout.readline() if started.stdout else 0)
@@ -165,7 +165,7 @@ def check_stores(suite: Suite, folder: str, program: str) -> None:
 
 
 def check_forks(suite: Suite, folder: str, program: str, way: str) -> None:
-    """Killed in the middle of forks and execs: there is no false report, and what is not seen is named."""
+    """Killed in the middle of forks and execs: there is no false report, and missing parts are named."""
     for _ in range(20):
         status, _, said = killed(suite, [program, way], 0, 0.03)
         expect("no reports" in said, True, said)

@@ -21,7 +21,7 @@ MANY_LINES = 100000
 MANY_PLACES = 2000
 RESULT_LINES = 1000000
 JOBS, RESULTS_OF_A_JOB = 1000, 100
-# Of so many results one has a finding, at one of so many places.
+# Of this many results one has a finding, at one of this many places.
 ONE_HAS, PLACES_OF_A_FARM = 10, 500
 
 

@@ -5,7 +5,7 @@ asancol-report.
 usage: run/tests/check.py [--list] [--junit FILE] [--quick | --rest] ASANCOL [WORD..]
 
 A word chooses the test whose name it is, or else those whose names have it. The last line is 'N passed, M failed', and
-the status is 1 if a test failed. What is not there, such as bubblewrap, is said in a line, and left out. If SANITIZE is
+the status is 1 if a test failed. A missing tool, such as bubblewrap, is named in a line, and left out. If SANITIZE is
 set, after make -C run asancol-run-sanitized, the tests run the asancol-run that the compiler's AddressSanitizer and
 UndefinedBehaviorSanitizer watch, and each finding is a failure.
 """

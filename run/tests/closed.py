@@ -23,12 +23,12 @@ def build(compiler: str, program: str) -> None:
 
 
 def run_way(suite: Suite, folder: str, program: str, way: Sequence[str], *options: str, **settings: str) -> str:
-    """What is said of a way, after `status `."""
+    """The text on a way, after `status `."""
     ran = suite.run(*options, "--leaks=no", "--", program, *way, cwd=folder, ASANCOL_REPORT=REPORT, **settings)
     return f"status {ran.status} {ran.err}"
 
 
-# What is being sent when the descriptors go may be lost, which is a matter of microseconds: then it is said.
+# Data sent when the descriptors are closed may be lost, which is a matter of microseconds: then it is said.
 GOES = 3
 
 
@@ -49,7 +49,7 @@ def check_ways(suite: Suite, folder: str, program: str) -> None:
 
 
 def check_missing(suite: Suite, folder: str, program: str) -> None:
-    """What could not be sent is said; but what was good may be missing. On a busy machine the process may end before it
+    """Unsent events are reported; but good ones may be missing. On a busy machine the process may end before it
     has noted that it has closed them."""
     said = run_way(suite, folder, program, ["burst"])
     why = r"INCOMPLETE: (it has closed all its descriptors|it ended): its last events were not seen, at least \d+"

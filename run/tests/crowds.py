@@ -8,12 +8,12 @@ from sharing import checker
 from support import RUN, SANITIZE, TESTS, TOP, Later, Suite, expect, expect_ran, leave_out
 from testing.programs import call
 
-# So many come in a run, and in a larger one.
+# This many come in a run, and in a larger one.
 FEW, MANY = 500, 2000
 # So much more one of the larger run may take. If each looked at all that came before it, by four instructions for one,
 # it would take more.
 GROWTH = 1.08
-# So many are beside the one that goes wrong.
+# This many are beside the one that goes wrong.
 BESIDE = 150
 
 GARBAGE = ("import os, socket; s = socket.socket(socket.AF_UNIX); s.connect(os.environ['ASANCOL_HUB']); "
@@ -25,7 +25,7 @@ def build(program: str) -> None:
 
 
 def instructions(suite: Suite, folder: str, program: str, count: int, *words: str) -> int:
-    """How many instructions asancol-run takes for a run of so many processes: its own, without the system's."""
+    """How many instructions asancol-run takes for a run of this many processes: its own, without the system's."""
     path = f"{folder}/instructions"
     argv = ["valgrind", "--tool=callgrind", f"--callgrind-out-file={path}", RUN, "-q", "--exitcode=7", "--", program,
             str(count), *words]
@@ -54,7 +54,7 @@ def held_of_one(suite: Suite, program: str) -> float:
 
 
 def check_held(suite: Suite, folder: str, program: str) -> None:
-    """What is held of a process that has ended. The allocator takes memory in steps: the least of several counts."""
+    """The memory for a process that has ended. The allocator takes memory in steps: the least of several counts."""
     of_one = min(held_of_one(suite, program) for _ in range(4))
     expect(of_one < 550, True, f"{of_one:,.0f} bytes of one")
 

@@ -28,7 +28,7 @@ def check_packets(suite: Suite, folder: str) -> None:
 
 
 def check_second_message(suite: Suite, folder: str) -> None:
-    """What is left out grows after the end of the check: a second message says it."""
+    """The omitted part grows after the end of the check: a second message says it."""
     argv = ["--json", f"{folder}/x", "--", suite.program, "many", "10000"]
     packets = suite.packets(folder, *argv, ASANCOL_LIMIT="5000", ASANCOL_SEGMENTS="0")
     of_process = [it for it in packets[1:] if it["type"] == "process"]
@@ -107,7 +107,7 @@ def check_report_that_stays(suite: Suite, folder: str) -> None:
 
 
 def check_answers(suite: Suite, folder: str) -> None:
-    """The report's status decides: it knows what is suppressed."""
+    """The report's status decides: it knows the suppressions."""
     for answer, status in (("0", 5), ("1", 99), ("3", 98), ("4", 99)):
         ran = suite.run("--", "sh", "-c", f"{suite.program} past; exit 5", FAKE=answer)
         expect_ran(ran, status, "the report", absent=["p0 #"])

@@ -8,7 +8,7 @@ from support import CC, TOP, Suite, expect, leave_out
 from testing.programs import call
 
 PRELOADED = f"{TOP}/recorder/libasancol_preload.so"
-# What readelf says of a program, and of what is preloaded into others'.
+# The output of readelf on a program, and on the preloaded library.
 HELD_FAST = (r"GNU_RELRO", r"BIND_NOW|FLAGS_1.*NOW")
 OF_PROGRAMS = (*HELD_FAST, r"FLAGS_1.*PIE", r"__stack_chk_fail", r"__v?snprintf_chk")
 

@@ -162,7 +162,7 @@ def check_end(suite: Suite, folder: str, row: Row, end: End) -> None:
 
 
 def text_of(ran: Ran) -> str:
-    """What was said, without numbers and names of processes, and without that there was no report."""
+    """The messages, without numbers and names of processes, and without that there was no report."""
     return re.sub(rf"process \d+ (\./)?{NAME}:", "process:", re.sub(r"^asancol-run: .*\n", "", ran.err, flags=re.M))
 
 

@@ -121,7 +121,7 @@ static struct asked asked_of(unsigned number)
     };
 }
 
-/* All runs of so many processes. */
+/* All runs of this many processes. */
 static void end_each(size_t count, struct line *lines)
 {
     unsigned long lists = 1;

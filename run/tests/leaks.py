@@ -61,7 +61,7 @@ def check_forms(suite: Suite, folder: str, compiler: str) -> None:
 
 
 def check_rules(suite: Suite, folder: str, compiler: str) -> None:
-    """What is suppressed is in no sum, and no report."""
+    """A suppressed leak is in no sum, and no report."""
     program = make(folder, compiler)
     for rule, left in (("leak:^lose$", "leaks: 70 bytes in 2 blocks at 2 places;"), ("leak:leak.c", ""),
                        ("indirect-leak:lose_two", "leaks: 340 bytes in 4 blocks at 2 places;")):

@@ -29,7 +29,7 @@ SHADOW = re.compile(r"^(?:=>| +)0x2[0-9a-f]{11}:.*\n", re.M)
 
 
 def said_of(suite: Suite, argv: List[str], full: str, quarantine: str = "") -> str:
-    """What is said of a run, without the numbers of processes and events. Its addresses are the same each time, but
+    """The text of a run, without the numbers of processes and events. Its addresses are the same each time, but
     those of blocks depend on what is recorded: each has its number in the order in which they come."""
     ran = suite.run("--shadow", "--full-stacks", "--leaks=yes", "--", "setarch", "-R", *argv,
                     ASANCOL_REPORT=REPORT, ASANCOL_QUARANTINE=quarantine, ASANCOL_FULL=full)

@@ -1,4 +1,4 @@
-"""Processes and signals: what outlives the command, what is killed, stopped or left behind."""
+"""Processes and signals: some outlive the command, are killed, stopped or left behind."""
 
 import os
 import pty
@@ -25,7 +25,7 @@ def check_orphan_for_too_long(suite: Suite, folder: str) -> None:
 
 
 def check_cut_process_runs_on(suite: Suite, folder: str) -> None:
-    """What is cut is not harmed."""
+    """A truncated one is not harmed."""
     mark = f"{folder}/ran-on"
     line = f"({suite.program} sleeps 1; touch {mark}) > /dev/null 2>&1 &"
     expect_ran(suite.run("--wait", "0.2", "--", "sh", "-c", line), 98, "still ran at the end")
@@ -47,7 +47,7 @@ def check_inherited(suite: Suite, folder: str, line: str, status: int, of: str) 
     """Only what the command has started is waited for, also if asancol-run has the number 1 of a namespace."""
     begun = time.monotonic()
     words = line.replace("RUN", RUN).replace("PROGRAM", suite.program)
-    with open(f"{folder}/err", "wb") as error:  # no pipe: what is left would keep it open
+    with open(f"{folder}/err", "wb") as error:  # no pipe: the rest would keep it open
         command = [*of.split(), "bash", "-c", f"{words} > /dev/null"]
         ran = call(command, env=suite.environment(), stderr=error, check=False, timeout=60)
     with open(f"{folder}/err", encoding="utf-8") as error:
@@ -65,7 +65,7 @@ def check_hurry(suite: Suite, folder: str) -> None:
 
 
 def check_group_signal(suite: Suite, folder: str) -> None:
-    """Sent to the process and to its group, as `timeout` does, it is one: what was found is still reported."""
+    """Sent to the process and to its group, as `timeout` does, it is one: earlier findings are still reported."""
     argv = ["timeout", "-s", "TERM", "0.7", RUN, "--", suite.program, "past_and_sleeps", "30"]
     for _ in range(3):
         ran = suite.run_argv(argv, folder, FAKE="1")
@@ -105,7 +105,7 @@ def check_huge_pages(suite: Suite, folder: str) -> None:
 
 
 def check_term_during_report(suite: Suite, folder: str) -> None:
-    """A signal is passed on, and what was found is still reported."""
+    """A signal is passed on, and earlier findings are still reported."""
     started = suite.start("--", suite.program, "past_and_sleeps", "30")
     expect(started.line(), "ready\n", "the program")
     started.send_signal(signal.SIGTERM)
@@ -129,7 +129,7 @@ def check_timeout_program(suite: Suite, folder: str) -> None:
 
 
 def check_ignored_signals(suite: Suite, folder: str) -> None:
-    """What was ignored before stays so, as under nohup."""
+    """Signals ignored before stay ignored, as under nohup."""
     argv = ["sh", "-c", f"trap '' HUP; exec {RUN} -- sh -c '{suite.program} sleeps 0.5; exit 5'"]
     started = Started(argv, env=suite.environment(), stderr=subprocess.PIPE, text=True)
     time.sleep(0.3)
@@ -184,7 +184,7 @@ def check_time_limit_spares_others(suite: Suite, folder: str) -> None:
 
 
 def at_terminal(suite: Suite, argv: List[str], typed: bytes, after: float, **settings: str) -> Ran:
-    """Runs at a terminal, on which something is typed after so many seconds."""
+    """Runs at a terminal, on which something is typed after this many seconds."""
     child, terminal = pty.fork()
     if child == 0:
         os.execve(argv[0], argv, suite.environment(**{"TERM": "xterm", **settings}))
@@ -325,7 +325,7 @@ def check_garbage(suite: Suite, folder: str) -> None:
 
 
 def check_standard_closed(suite: Suite, folder: str, closing: str, status: int) -> None:
-    """What is closed is closed for the command too, and nothing gets into its place."""
+    """A closed descriptor is closed for the command too, and nothing gets into its place."""
     argv = ["sh", "-c", f"exec {RUN} -q -- {suite.program} open_ones {closing}"]
     expect(suite.run_argv(argv).status, status, closing)
 

@@ -52,7 +52,7 @@ TITLE = "ERROR: asancol: memcpy-param-overlap: memory ranges [0x"
 
 
 def check_each_end(suite: Suite, folder: str) -> None:
-    """However the process ends, what was found is there, and its status."""
+    """However the process ends, the findings are there, and its status."""
     program = built(folder)
     for argv, texts in (
         (["once"], ["1 report at 1 place (1 by the recorder); 1 process", "all complete"]),

@@ -13,7 +13,7 @@ from testing.programs import Started
 
 NOBODY, OTHER = 65534, 65533
 
-# Connects to a name, which may be abstract, so many times, and sends a bad free each time. It stays for some seconds.
+# Connects to a name, which may be abstract, this many times, and sends a bad free each time. It stays for some seconds.
 STAYS = """
 import contextlib, socket, sys, time
 peers = [socket.socket(socket.AF_UNIX) for _ in range(int(sys.argv[3]))]
@@ -36,7 +36,8 @@ print("gone", flush=True)
 time.sleep(float(sys.argv[2]))
 """
 
-# Sends what is no memory of a recorder with the first bytes of a trace. Its words name the hub and what it sends.
+# Sends something other than a recorder's memory with the first bytes of a trace. Its words name the hub and what it
+# sends.
 SENDER = """
 import array, ctypes, os, socket, sys
 hub, what = sys.argv[1:]

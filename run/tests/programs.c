@@ -31,7 +31,7 @@ static int sound(char **argv)
     return write(1, "sound\n", 6) != 6;
 }
 
-/* So many bad stores; 1 without a word. */
+/* This many bad stores; 1 without a word. */
 static int past(char **argv)
 {
     for (long i = argv[0] != NULL ? atol(argv[0]) : 1; i > 0; i--)
@@ -90,7 +90,7 @@ static int execs(char **argv)
     return 127;
 }
 
-/* So many mallocs, and as many frees. */
+/* This many mallocs, and as many frees. */
 static int many(char **argv)
 {
     for (long i = atol(argv[0]); i > 0; i--) {

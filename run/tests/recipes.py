@@ -48,7 +48,7 @@ def check_hidden(suite: Suite, folder: str) -> None:
 
 
 def check_memcheck(suite: Suite, folder: str) -> None:
-    """ctest -T memcheck shows no status, but what is printed is in its logs."""
+    """ctest -T memcheck shows no status, but the output is in its logs."""
     argv = [f"-DMEMORYCHECK_COMMAND={RUN}", "-DMEMORYCHECK_TYPE=Valgrind", "-DMEMORYCHECK_COMMAND_OPTIONS=-q"]
     write_cmake(suite, folder, *argv)
     ran = suite.run_argv(["ctest", "-T", "memcheck"], cwd=f"{folder}/build")

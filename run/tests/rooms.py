@@ -52,7 +52,7 @@ def check_no_folder_at_all(suite: Suite, folder: str) -> None:
 
 
 def check_replaced(suite: Suite, folder: str) -> None:
-    """Of what is put in the place of the folder nothing is looked at and nothing is removed, and the run says so."""
+    """In a folder that replaces the run's nothing is looked at and nothing is removed, and the run says so."""
     room, other = f"{folder}/room", f"{folder}/other"
     why = "(unknown): INCOMPLETE: the folder of the run was replaced, with all that"
     for put in (f"ln -s {other} $it", f"mv {other} $it"):
@@ -68,7 +68,7 @@ def check_replaced(suite: Suite, folder: str) -> None:
 
 
 def check_open_folder(suite: Suite, folder: str) -> None:
-    """A folder in which anybody may move what is others' is passed over, with a line."""
+    """A folder in which anybody may move others' files is passed over, with a line."""
     line = f"asancol-run: TMPDIR: {folder}: anybody may move what is in it"
     for mode, is_named in ((0o777, True), (0o1777, False), (0o2775, False)):
         os.chmod(folder, mode)
@@ -198,7 +198,7 @@ def check_nested_result(suite: Suite, folder: str) -> None:
     expect("--nested" in words, True, words)
 
 
-# Has what is waited for come within a second, however long that may take.
+# Lets awaited events come within a second, however long that may take.
 HURRIES = """
 #define _GNU_SOURCE
 #include <sys/socket.h>

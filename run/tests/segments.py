@@ -65,7 +65,7 @@ INCOMPLETE = {
 
 
 def check_incomplete(suite: Suite, folder: str, words: str, why: str) -> None:
-    """What is missing, or was not seen, is said, with and without a report."""
+    """Missing and unseen parts are reported, with and without a report."""
     status = 99 if "b" in words else 98
     path = f"{folder}/result"
     for options in ((), ["--json", path]):
@@ -104,7 +104,8 @@ def lines_of(path: str, kind: str) -> List[Any]:
 
 
 def check_outputs(suite: Suite, folder: str) -> None:
-    """Reports of several segments are those of one process, in each output, and what is read again says the same."""
+    """Reports of several segments are those of one process, in each output, and a result that is read again says the
+    same."""
     outputs = [f"--{kind}={folder}/{kind}" for kind in ("json", "junit", "sarif", "html")]
     ran = run_peer(suite, "1 2b 3b 4e", *outputs)
     said = "asancol: 4 reports at 1 place; 1 process, 45 events; all complete\n"
@@ -201,7 +202,7 @@ def check_keep(suite: Suite, folder: str) -> None:
 
 
 def check_taken_names(suite: Suite, folder: str) -> None:
-    """What is there stays, and asancol-report is not misled by it."""
+    """Existing files stay, and asancol-report is not misled by it."""
     line = f"for it in trace 1.segment-002.trace; do echo > {folder}/segmented.$$.$it; done; exec {SEGMENTED} 1 2b 3e"
     suite.run("--keep", folder, "--", "sh", "-c", line, ASANCOL_REPORT=REPORT)
     names = [it for it in os.listdir(folder) if it.endswith(".trace")]
@@ -213,7 +214,7 @@ def check_taken_names(suite: Suite, folder: str) -> None:
 
 
 def check_kept_early(suite: Suite, folder: str) -> None:
-    """What was clean is not kept until the end of a long run."""
+    """Clean segments are not kept until the end of a long run."""
     line = f"{SEGMENTED} 1 2 3e; exec {SEGMENTED} wait"
     started = suite.start("--keep", folder, "--", "sh", "-c", line, ASANCOL_REPORT=REPORT)
     expect(started.stdout.readline() if started.stdout else "", "ready\n", "the second program")
@@ -359,7 +360,8 @@ def check_recorded(suite: Suite, folder: str, program: str) -> None:
 
 
 def check_recorded_kills(suite: Suite, folder: str, program: str) -> None:
-    """Killed at a moment that nobody chooses: it is one process without a false report, and what is missing is said."""
+    """Killed at a moment that nobody chooses: it is one process without a false report, and missing parts are
+    reported."""
     for _ in range(20):
         argv = [program, "threads", "1000000", "-1"]
         settings = {"ASANCOL_REPORT": REPORT, "ASANCOL_LIMIT": "2000", "ASANCOL_FULL": "1"}

@@ -153,7 +153,7 @@ def check_children(suite: Suite, folder: str) -> None:
 
 
 def check_threads(suite: Suite, folder: str) -> None:
-    """A process has a close if it ends in its last thread. What was joined may still be on its way out."""
+    """A process has a close if it ends in its last thread. A joined thread may still be on its way out."""
     program = f"{folder}/threads"
     for flags in ((), ("-static",)):
         call([CC, "-g", "-pthread", *flags, f"{TESTS}/threads.c", "-o", program], check=True)
@@ -513,7 +513,7 @@ def numbers_of_calls() -> Dict[str, int]:
 
 
 def allowed_calls(lines: List[str]) -> List[int]:
-    """What is left of the first line once the others, which begin with ~, are taken away."""
+    """The rest of the first line once the others, which begin with ~, are taken away."""
     allowed = set(calls_of_sets(lines[0]))
     for line in lines[1:]:
         allowed -= set(calls_of_sets(line))

@@ -1,4 +1,4 @@
-"""Processes that live shortly have a checker together. What is said of them is what is said with one for each."""
+"""Processes that live shortly have a checker together. The messages are the same as with one for each."""
 
 import os
 import re
@@ -7,7 +7,7 @@ from typing import Any, Dict, List, Tuple
 from support import RUN, TESTS, Suite, expect, expect_ran, read_packets
 
 GARBAGE = "import os, socket; s = socket.socket(socket.AF_UNIX); s.connect(os.environ['ASANCOL_HUB']); s.send({})"
-# So many end soon, and well.
+# This many end soon, and well.
 SHORT = 40
 
 
@@ -41,7 +41,7 @@ def mixed(suite: Suite) -> str:
 
 
 def said_of_one(process: Dict[str, Any]) -> List[Any]:
-    """Returns what was said of a process, without what depends on when its parent asks for its end."""
+    """Returns the messages on a process, without what depends on when its parent asks for its end."""
     names = ("fate", "events", "reports", "findings", "whole", "left_out", "abrupt", "segments")
     why = re.sub("^ended abruptly, [^:]*", "ended abruptly", process["why"])
     signal = None if why.startswith("ended abruptly") else process["signal"]
@@ -49,7 +49,7 @@ def said_of_one(process: Dict[str, Any]) -> List[Any]:
 
 
 def said_of(processes: List[Any]) -> List[Tuple[Any, ...]]:
-    """Returns what was said of each process, in the order of processes: the last word, and all verdicts."""
+    """Returns the messages on each process, in the order of processes: the last word, and all verdicts."""
     last = {it["n"]: said_of_one(it) for it in processes}
     verdicts = sorted((it["n"], it.get("segment", 0), it["verdicts"]) for it in processes if "verdicts" in it)
     return [*sorted(last.items(), key=lambda it: it[0]), *verdicts]

@@ -35,12 +35,12 @@ CLASSES = {
     "wild_free": "bad-free", "past_stack": "stack-buffer-overflow", "past_global": "global-buffer-overflow",
     "poisoned": "use-after-poison",
 }
-# Within so many seconds of the end of a process its verdict is there.
+# Within this many seconds of the end of a process its verdict is there.
 PATIENCE = 120
 SAMPLES_PER_MINUTE = 12
 # What a line through the samples may grow from the first to the last, in KB: Python's own memory goes up and down.
 MAX_GROWTH = 512
-# The fit begins after so much of the time: what is imported and allocated once is no growth.
+# The fit begins after so much of the time: imports and single allocations are no growth.
 WARM = 0.1
 
 
@@ -160,7 +160,7 @@ class Soak:
         return Verdict(status, ends[0].fate, ends[0].events, reports)
 
     def expect(self, process: int, end: str, bug: str, number: int = 1) -> Verdict:
-        """The verdict of a process has this end, and so many reports of this bug and no others."""
+        """The verdict of a process has this end, and this many reports of this bug and no others."""
         verdict = self.verdict(process)
         self.expect_reports(process, verdict, bug, number)
         status = ("1" if verdict.reports else "0") if end == "closed" else "3"

@@ -144,7 +144,7 @@ RUNS: Dict[str, Tuple[str, int, List[str]]] = {
     ),
 }
 
-# A command line that is refused, and what is said.
+# A command line that is refused, and the message.
 REFUSED: Dict[str, Tuple[str, str]] = {
     "unknown": ("--nonsense true", "there is no option --nonsense\n"),
     "near": ("--exit-code 3 true", "there is no option --exit-code; is --exitcode meant?"),

@@ -1,4 +1,4 @@
-"""The verdict says what was not checked: in the summary, in the status if that is asked for, and in each output."""
+"""The verdict lists unchecked code: in the summary, in the status if that is asked for, and in each output."""
 
 import json
 import os
@@ -23,7 +23,7 @@ int helper(char *p) { ((volatile char *)p)[BYTE] = 1; return 0; }
 
 
 def build(folder: str, compiler: str) -> None:
-    """./bad has a report, ./some has an object that was not compiled so, ./more has six; ./static; and two with
+    """./bad has a report, ./some has an object compiled otherwise, ./more has six; ./static; and two with
     libraries of the system."""
     environment = {**os.environ, "ASANCOL_CC": compiler}
 
@@ -79,7 +79,7 @@ def check_summary(suite: Suite, folder: str, compiler: str) -> None:
 
 
 def check_outputs(suite: Suite, folder: str, compiler: str) -> None:
-    """It is in the JSON lines and what is merged of them, in SARIF and in the page; and a run inside another has it."""
+    """It is in the JSON lines and their merged results, in SARIF and in the page; and a run inside another has it."""
     build(folder, compiler)
     outputs = [f"--{kind}={kind}" for kind in ("json", "sarif", "html")]
     ran = suite.run(*outputs, "--", "./some", cwd=folder, ASANCOL_REPORT=REPORT)

@@ -369,7 +369,7 @@ UNMARKED = "import ctypes, os, sys; ctypes.CDLL(None).prctl(29, 50000); os.execv
 
 
 def check_lost_mark(suite: Suite, folder: str) -> None:
-    """A process that has not even the mark finds the run by what is above it, whatever that is called."""
+    """A process that has not even the mark finds the run by its ancestors, whatever their names."""
     lost = build(folder, "lost", LOST)
     odd = shutil.copy(shutil.which("sh") or "", f"{folder}/a) S 1 (")
     line = f"{lost}; python3 -c '{UNMARKED}' env -i {lost} b; true"

@@ -270,7 +270,7 @@ def check_outputs(suite: Suite, folder: str) -> None:
 
 
 def check_outputs_to_descriptors(suite: Suite, folder: str) -> None:
-    """What a descriptor has got before stays, and what is written there after it follows."""
+    """Earlier output to a descriptor stays, and later output follows."""
     run = f"{RUN} --json NAME --log-file /dev/null -- {suite.program} past"
     for redirected, number, name in (
         (">> log", 1, "/dev/stdout"), ("2> log", 2, "/dev/stderr"), ("7> log", 7, "/dev/fd/7")

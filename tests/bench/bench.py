@@ -40,7 +40,7 @@ FILES, FILES_WORKERS = 8, 4
 
 
 class Cost(NamedTuple):
-    """What a run took: processor and wall seconds, and at most so many bytes of memory."""
+    """What a run took: processor and wall seconds, and at most this many bytes of memory."""
 
     processor: float
     wall: float

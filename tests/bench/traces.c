@@ -201,7 +201,7 @@ static void stack_access(void)
     good_access(bottom + depth, 256);
 }
 
-/* Hot blocks and a stack; so many accesses in a million are bad. */
+/* Hot blocks and a stack; this many accesses in a million are bad. */
 static void local(uint64_t events, uint64_t bad)
 {
     struct blocks live = {0};

@@ -134,7 +134,7 @@ def memory_that_all_share(program):
 
 @test
 def peers_beside_closed_streams(program):
-    """No peer is taken for a standard stream that was closed: none gets what is printed."""
+    """No peer is taken for a standard stream that was closed: none gets the output."""
     for streams in [(0,), (0, 1), (0, 1, 2)]:
         served = Served(program, "--count", "2", before=closing(*streams))
         peers = [served.connect() for _ in range(2)]

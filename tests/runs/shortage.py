@@ -12,7 +12,7 @@ from testing.traces import closed, free
 
 @test
 def output_that_ends_early(program):
-    """The first bytes go out, as many as there is room for."""
+    """The first bytes go out, up to the available room."""
     put("trace", PAST_THE_END)
     text = past_the_end().encode()
     for argv in [[], ["check", "trace"]]:

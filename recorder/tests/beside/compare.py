@@ -14,7 +14,7 @@ ORDER = [LEFT_OUT, SAME, OTHER, FALSE, MISSED]
 
 
 class Verdict(NamedTuple):
-    """What is said of an execution, why, and which one of its test it is."""
+    """The verdict on an execution, the reason, and its number in its test."""
 
     kind: str
     why: str = ""
@@ -30,7 +30,7 @@ class Job(NamedTuple):
 
 
 class Outcome(NamedTuple):
-    """What came of a test: what was said of each of its executions."""
+    """The result of a test: the verdict on each of its executions."""
 
     suite: str
     name: str
@@ -41,7 +41,7 @@ class Outcome(NamedTuple):
         return max((it.kind for it in self.verdicts), key=ORDER.index)
 
     def whys(self) -> Iterator[str]:
-        """What is not the same, each with where that is."""
+        """The differences, each with its place."""
         found: Dict[Tuple[str, str], List[str]] = {}
         for it in self.verdicts:
             if it.kind == self.kind or it.kind not in (SAME, LEFT_OUT):

@@ -3,7 +3,7 @@
 
 usage: execute.py real|recorded|text FOLDER PROGRAM [ARGUMENT..]
 
-What was noted is added as a line to FOLDER/executions. Output and status are those of the program. With `text` it ends
+The notes are added as a line to FOLDER/executions. Output and status are those of the program. With `text` it ends
 at its first report as with AddressSanitizer, and its output has the text of --log-path, in the words of LLVM 14.
 """
 

@@ -1,4 +1,4 @@
-"""The sources of AddressSanitizer's tests: what is needed of LLVM's and of GCC's archives."""
+"""The sources of AddressSanitizer's tests: the needed parts of LLVM's and of GCC's archives."""
 
 import glob
 import os

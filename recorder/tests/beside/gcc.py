@@ -60,7 +60,7 @@ def is_target(text: str) -> bool:
 
 
 def applies(directive: Directive, after: int) -> bool:
-    """Whether a directive holds here: its target, if it has one, comes after so many arguments."""
+    """Whether a directive holds here: its target, if it has one, comes after this many arguments."""
     rest = directive.arguments[after:]
     return not rest or not rest[0].startswith("target") or is_target(rest[0][len("target"):])
 

@@ -9,7 +9,7 @@ from typing import Dict, Iterable, List, Tuple
 # What one place has lost, directly and indirectly: bytes and blocks of each.
 Lost = Tuple[int, int, int, int]
 NOTHING: Lost = (0, 0, 0, 0)
-# So many blocks of a place may be kept by words that nobody uses any more, in all processes of a suite. With
+# This many blocks of a place may be kept by words that nobody uses any more, in all processes of a suite. With
 # AddressSanitizer there may be more such words. Which block leads to which is by chance if hashes are drawn, as in Lua.
 STALE = 4
 

@@ -1,4 +1,4 @@
-"""Programs that are built and run in both ways, and what is kept of AddressSanitizer's."""
+"""Programs that are built and run in both ways, and the kept results of AddressSanitizer."""
 
 import contextlib
 import functools
@@ -48,7 +48,7 @@ def is_kept(path: str) -> bool:
 
 
 def read(said: List[Any]) -> Execution:
-    """What was written. After some classes AddressSanitizer puts a colon."""
+    """The output. After some classes AddressSanitizer puts a colon."""
     status, report, option = said
     return Execution(status, Report(report[0].rstrip(":"), *report[1:]) if report else None, option)
 

@@ -1,4 +1,4 @@
-"""What AddressSanitizer's tests are about and asancol does not claim, and what is known of the others."""
+"""What AddressSanitizer's tests are about and asancol does not claim, and the known differences of the others."""
 
 from typing import List, NamedTuple
 

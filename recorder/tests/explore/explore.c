@@ -1,7 +1,7 @@
 /* Explores what threads do that share the stream: every order of their steps with a few preemptions, by a search in
    depth, or many orders by chance. A thread is a context of its own in one thread of the system. It goes on until it
-   waits, except the points at which the explorer takes the processor away. So a run is determined by what was chosen
-   at the points, and can be done again: the memory of the program is put back before each run. */
+   waits, except the points at which the explorer takes the processor away. So a run is determined by the choices at the
+   points, and can be done again: the memory of the program is put back before each run. */
 #define _GNU_SOURCE
 #include "explore.h"
 #include "explorer.h"
@@ -37,7 +37,7 @@ struct thread {
     unsigned char tls[TLS_ROOM];
 };
 
-/* What is not put back between runs. */
+/* State that is not reset between runs. */
 static struct explorer {
     struct thread threads[MAX_THREADS];
     ucontext_t caller;
@@ -98,7 +98,7 @@ static uint64_t draw(void)
     return it->draws ^= it->draws << 17;
 }
 
-/* One of so many: the first is the usual one, and only that has no cost. */
+/* One of this many: the first is the usual one, and only that has no cost. */
 static unsigned choose(unsigned count, bool is_free)
 {
     if (count < 2)

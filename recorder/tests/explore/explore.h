@@ -10,7 +10,7 @@
 #include "base/lock.h"
 #include "base/system.h"
 
-/* Before an operation on what is shared; the texts are for the list of steps. */
+/* Before an operation on shared memory; the texts are for the list of steps. */
 void explore_point(const char *what, const char *function, int line);
 /* The same, where nothing is changed: a thread that looks again and again waits until something has changed. */
 void explore_look(const char *what, const char *function, int line);

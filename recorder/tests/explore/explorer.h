@@ -13,12 +13,12 @@ struct search {
     unsigned handlers;    /* how many of these may be handlers */
     bool times_out;       /* a thread may wait longer than it has patience */
     bool is_random;
-    unsigned rareness;    /* one point of so many, if it is random */
+    unsigned rareness;    /* one point of this many, if it is random */
     uint64_t seed;
 };
 
 void explore_begin(void);
-/* Runs the threads in many orders, at most so many. Answers how many these were; 0: one was wrong, and its steps are
+/* Runs the threads in many orders, at most this many. Answers how many these were; 0: one was wrong, and its steps are
    printed. */
 uint64_t explore(unsigned threads, const struct search *search, uint64_t most);
 /* The run is wrong. */

@@ -217,7 +217,7 @@ uint32_t fault_of(unsigned window, struct access *access, unsigned width, uint64
 }
 void fault_note(unsigned window, uint32_t entry, uint64_t event) { (void)window, (void)entry, (void)event; }
 
-/* The heap: a block of each thread, and what is poisoned in it. */
+/* The heap: a block of each thread, and poison in it. */
 
 static struct lock heap_mutex;
 static unsigned heap_owner = MAX_THREADS;
@@ -618,7 +618,7 @@ void world_begin(void)
     heap_snapshot(UINT64_MAX, stream_snapshot_room());
 }
 
-/* What is seen at the end. */
+/* The observations at the end. */
 
 static unsigned places[LINES];
 static bool is_whole;

@@ -1,5 +1,5 @@
-/* The arguments of a compiler's command line, apart by zeros, as asancol-cc looks at them. The last one is also what is
-   in the file `response`, which the others may name. */
+/* The arguments of a compiler's command line, apart by zeros, as asancol-cc looks at them. The last one is also the
+   content of the file `response`, which the others may name. */
 #include <stdint.h>
 #include <stdio.h>
 #include <stdlib.h>

@@ -1,5 +1,5 @@
-/* Formats of printf and scanf. The first byte says which, and how many values the scanf has assigned. What is looked at
-   has to lie in the arguments, or in the format. */
+/* Formats of printf and scanf. The first byte says which, and how many values the scanf has assigned. The examined
+   bytes must be in the arguments, or in the format. */
 #define _GNU_SOURCE
 #include <stdbool.h>
 #include <stdint.h>

@@ -1,7 +1,7 @@
 /* Four threads allocate and free, also what another one has allocated, and look blocks up as it is done without the
    lock. What a thread has keeps its bytes, and is found with its size. One of them looks at all of the heap meanwhile.
    Threads end, and others take their shards. First the allocator goes forward: with a large quarantine no address is
-   handed out twice, and what was freed stays bad; with a small one and with none it is used again. Then a snapshot
+   handed out twice, and freed memory stays bad; with a small one and with none it is used again. Then a snapshot
    comes in the middle, and all is in order. The whole is done without membarrier, too. */
 #define _GNU_SOURCE
 #include <pthread.h>
@@ -36,7 +36,7 @@ enum { THREADS = 4, ROUNDS = 2, BLOCKS = 512, SHORT_LIVED = 32, SHARED = 32, STE
 /* What the other parts of the recorder would do. */
 
 static const char is_alone = 0;
-/* Time passes at each look at the clock: what was freed waits only for a few hundred calls. */
+/* Time passes at each look at the clock: freed memory waits only for a few hundred calls. */
 static int look_at_clock(int clock, struct timespec *now)
 {
     static int looks;

@@ -1,4 +1,4 @@
-/* Given by -include to what is built for heap.c: the arena is small, and lies with its shadow where the compiler's
+/* Given by -include to the sources built for heap.c: the arena is small, and lies with its shadow where the compiler's
    sanitizer lets memory be used. ThreadSanitizer's is below 2^39, AddressSanitizer's above its own shadow. */
 #define UNITS (1 << 18)
 #define MOST_CLOSED 4

@@ -1,4 +1,4 @@
-/* What is linked, and what was linked: objects, archives and programs, in which asancol-cc looks for its mark and for
+/* The inputs and outputs of links: objects, archives and programs, in which asancol-cc looks for its mark and for
    names of variables. */
 #define _GNU_SOURCE
 #include <stdbool.h>

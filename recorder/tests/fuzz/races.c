@@ -149,7 +149,7 @@ void recorder_say(const char *what, const char *of, const char *why)
         fprintf(stderr, "%s%s: %s\n", what, of, why);
 }
 
-/* What is near is drawn: that it is found is tested elsewhere. */
+/* The neighbourhood is drawn: that it is found is tested elsewhere. */
 void near_block(struct list *list, uint64_t address, struct side_fault *fault)
 {
     fault->allocated_stack = list_put_stack(list, call_site_of(BAD_AT + draw(PLACES)));
@@ -291,7 +291,7 @@ static void *run(void *number)
     return NULL;
 }
 
-/* What is left: each segment has its header, whole records and a close; or none, where others went on during an
+/* The result: each segment has its header, whole records and a close; or none, where others went on during an
    exec. */
 
 static bool is_closed_file(const char *path)

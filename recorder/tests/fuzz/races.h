@@ -1,4 +1,4 @@
-/* Given by -include to what is built for races.c: what is stated lies where ThreadSanitizer lets memory be used. */
+/* Given by -include to the sources built for races.c: stated memory lies where ThreadSanitizer lets memory be used. */
 #define stated_of stated_elsewhere
 #include "heap.h"
 #undef stated_of

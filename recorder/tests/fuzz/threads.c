@@ -1,4 +1,4 @@
-/* Four threads write into one stream: to a file, to a socket, and to files of a segment each. What is written has all
+/* Four threads write into one stream: to a file, to a socket, and to files of a segment each. The output has all
    records of each thread in their order, and a close. The accesses among them go the way of compiled code. */
 #define _GNU_SOURCE
 #include <pthread.h>

@@ -1,5 +1,5 @@
 /* Operations that are drawn: `drawn SEED COUNT THREADS`. Most are sound, and some hundredths are not: accesses past the
-   ends of blocks, of arrays on the stack and of globals, of freed blocks, of poison, and frees of what is freed or no
+   ends of blocks, of arrays on the stack and of globals, of freed blocks, of poison, and frees of freed blocks or of no
    block. Threads take turns, so that with the same words all happens in the same order, at the same blocks. What a
    compiler records besides, its own variables, is sound. */
 #define _GNU_SOURCE
@@ -41,7 +41,7 @@ static uint64_t draw(uint64_t below)
     return state % below;
 }
 
-/* One in so many. */
+/* One in this many. */
 static int seldom(uint64_t many)
 {
     return draw(many) == 0;

@@ -1,6 +1,6 @@
-/* Frames that are left without their returns, in ways that no call of the compilers' announces: `left NAME`. Sound, but
-   for `in_block`, which has a fault in a frame in a block, and two behind the block; and for those after a vfork, which
-   have one in a frame that goes on. */
+/* Frames that are left without their returns, in ways that no call of the compilers' announces: `left NAME`. Sound,
+   except `in_block`, which has a fault in a frame in a block, and two behind the block; and those after a vfork,
+   which have one in a frame that goes on. */
 #define _GNU_SOURCE
 #include <pthread.h>
 #include <setjmp.h>

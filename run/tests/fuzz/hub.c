@@ -46,7 +46,7 @@ static int make_side(const uint8_t *data, size_t size)
     return made;
 }
 
-/* Sends so many descriptors, of which the first is the side memory or another. */
+/* Sends this many descriptors, of which the first is the side memory or another. */
 static void send_first(int to, unsigned kind, int side)
 {
     int others[] = {side, STDIN_FILENO, to}, sent[MAX_SENT];
@@ -70,7 +70,7 @@ static void send_first(int to, unsigned kind, int side)
     expect(sendmsg(to, &message, 0) == HEADER_LENGTH);
 }
 
-/* What is printed of a process is text without what controls a terminal, and a word of JSON is one. */
+/* The text printed of a process has nothing that controls a terminal, and a word of JSON is one. */
 static void look_at(const struct segment *segment)
 {
     const struct outcome *outcome = &segment->outcome;
