@@ -24,13 +24,13 @@ SOURCES: Dict[str, List[List[str]]] = {
 
 # With several threads.
 THREADS = [["2", "30000", "3"]]
-# A line of the shadow, which has what lies beside a block: with several threads that depends on what is recorded.
+# A line of the shadow, which shows the neighbours of a block: with several threads these depend on the recording.
 SHADOW = re.compile(r"^(?:=>| +)0x2[0-9a-f]{11}:.*\n", re.M)
 
 
 def said_of(suite: Suite, argv: List[str], full: str, quarantine: str = "") -> str:
     """The text of a run, without the numbers of processes and events. Its addresses are the same each time, but
-    those of blocks depend on what is recorded: each has its number in the order in which they come."""
+    those of blocks depend on the recording: each has its number in the order of appearance."""
     ran = suite.run("--shadow", "--full-stacks", "--leaks=yes", "--", "setarch", "-R", *argv,
                     ASANCOL_REPORT=REPORT, ASANCOL_QUARANTINE=quarantine, ASANCOL_FULL=full)
     text = re.sub(r"==\d+==|\b(?:process|PID) \d+|\d+ events", "", ran.err)
