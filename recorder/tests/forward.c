@@ -403,6 +403,16 @@ static void forgotten(size_t of)
     free(live);
 }
 
+/* So many gigabytes of addresses that are freed for good. */
+static void many(size_t gigabytes)
+{
+    char *freed = take(100);
+    free(freed);
+    for (size_t i = 0; i < gigabytes; i++)
+        free(take((size_t)1 << 30));
+    use(freed);
+}
+
 /* No more addresses from the system: those of freed blocks are used again. */
 static void limited(size_t of)
 {
@@ -534,7 +544,7 @@ static const struct {
            {"shorts", shorts},     {"calls", calls},         {"sizes", sizes},
            {"locked", locked},     {"forgotten", forgotten}, {"handlers", handlers},
            {"distinct", distinct}, {"limited", limited},     {"locked_by_user", locked_by_user},
-           {"alive", alive},       {"stepped", stepped}};
+           {"alive", alive},       {"stepped", stepped},     {"many", many}};
 
 int main(int count, char **argv)
 {

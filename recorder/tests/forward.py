@@ -57,6 +57,12 @@ def check_run(suite: Suite, folder: str, program: str) -> None:
     expect(b"  freed long ago: its exact size and its stacks are no longer kept\n" in ran.stderr, True, ran.stderr)
 
 
+def check_many(suite: Suite, folder: str, program: str) -> None:
+    """However much was freed, functions are known."""
+    ran = run([RUN, "--", program, "many", "80"], folder, ASANCOL=suite.asancol)
+    expect((ran.returncode, b" in use" in ran.stderr, b"modules" in ran.stderr), (99, True, False), ran.stderr)
+
+
 def check_twice(suite: Suite, folder: str, program: str) -> None:
     """Of two threads that free a block at once one is told."""
     expect(found(suite, folder, program, "twice").kinds, {"free double-free": 500}, "faults")
@@ -93,6 +99,6 @@ def check_freed(suite: Suite, folder: str, program: str) -> None:
 
 def tests(suite: Suite, compiler: Compiler) -> None:
     program = suite.built(compiler.c, [f"{TESTS}/forward.c"], f"forward-{compiler}", "-O1", "-w", "-pthread")
-    for name, check in (("late", check_late), ("run", check_run), ("twice", check_twice), ("memory", check_memory),
-                        ("good", check_good), ("alive", check_alive), ("freed", check_freed)):
+    for name, check in (("late", check_late), ("run", check_run), ("many", check_many), ("twice", check_twice),
+                        ("memory", check_memory), ("good", check_good), ("alive", check_alive), ("freed", check_freed)):
         suite.test(f"{compiler} forward {name}", check, program)
