@@ -119,9 +119,10 @@ __attribute__((flatten)) enum freeing free_in_shard(struct shard *shard, uintptr
     return free_forward(shard, block, address, from, now);
 }
 
-static void free_unrecorded(struct block *block)
+static void free_unrecorded(struct block *block, struct origin from)
 {
     uintptr_t start = (uintptr_t)block_start(block);
+    note_call_site(block, from);
     poison_range(start, start + block->large_size);
     if (heap_is_ordered()) {
         quarantine_release(block);
@@ -150,7 +151,7 @@ enum freeing free_with_all(uintptr_t address, struct origin from, const struct u
     if (block != NULL && is_in_use(block))
         families_look_at(block, &release);
     if (block != NULL && block->state == BLOCK_UNRECORDED) {
-        free_unrecorded(block);
+        free_unrecorded(block, from);
         return FREEING_DONE;
     }
     if (block == NULL || block->state != BLOCK_LIVE) {

@@ -17,6 +17,7 @@ struct slot {
     uintptr_t start, end;
     size_t block;            /* the number of its notes; 0 if there is none */
     uint32_t forgotten_size; /* of a slot that has none any more; or 0 */
+    bool is_retired;         /* of a run that is freed for good */
 };
 
 static struct unit unit_now(uint32_t number)
@@ -122,8 +123,24 @@ static bool find_slot(uintptr_t address, struct slot *slot)
         slot->start = (uintptr_t)unit_start(first);
         slot->end = slot->start + (size_t)unit.count * UNIT;
         slot->block = block_number(first, 0);
+        slot->is_retired = unit.form >= FORM_RETIRED;
     }
     return true;
+}
+
+/* Whether a block was there that was not recorded, and is freed: its notes have its size. */
+static bool is_freed_unrecorded(const struct slot *slot, const struct block *noted)
+{
+    return slot->is_retired && noted->state == BLOCK_FREE && noted->large_size > UINT32_MAX;
+}
+
+bool arena_has_freed_unrecorded(uintptr_t address)
+{
+    struct slot slot;
+    if (!find_slot(address, &slot) || slot.block == 0)
+        return false;
+    struct block noted = noted_now(&slot);
+    return is_freed_unrecorded(&slot, &noted);
 }
 
 static uint64_t distance_of(uintptr_t address, uintptr_t start, uint64_t size)
@@ -140,12 +157,12 @@ static bool look_at(const struct slot *slot, uintptr_t address, uint64_t *least,
     if (slot->block == 0)
         return false;
     struct block noted = noted_now(slot);
-    bool is_gone = is_forgotten(slot, &noted);
+    bool is_gone = is_forgotten(slot, &noted), is_freed = is_freed_unrecorded(slot, &noted);
     struct block block = is_gone ? forgotten_in(slot->forgotten_size) : noted;
     uintptr_t start = block_address(&block, slot->start);
-    uint64_t size = block.state == BLOCK_UNRECORDED ? block.large_size : block.size;
+    uint64_t size = block.state == BLOCK_UNRECORDED || is_freed ? block.large_size : block.size;
     uint64_t far = distance_of(address, start, size);
-    if (block.state == BLOCK_FREE)
+    if (block.state == BLOCK_FREE && !is_freed)
         return false;
     if (far < *least || (far == *least && start < found->start)) {
         *least = far;

@@ -413,6 +413,17 @@ static void many(size_t gigabytes)
     use(freed);
 }
 
+/* A block that can't be spelled in a record, and another one far from it. */
+static void huge(size_t of)
+{
+    char *block = take((size_t)5 << 30), *other = take(100);
+    (void)of;
+    free(block);
+    use(block + 1000);
+    use(block + ((size_t)3 << 30));
+    free(other);
+}
+
 /* No more addresses from the system: those of freed blocks are used again. */
 static void limited(size_t of)
 {
@@ -544,7 +555,8 @@ static const struct {
            {"shorts", shorts},     {"calls", calls},         {"sizes", sizes},
            {"locked", locked},     {"forgotten", forgotten}, {"handlers", handlers},
            {"distinct", distinct}, {"limited", limited},     {"locked_by_user", locked_by_user},
-           {"alive", alive},       {"stepped", stepped},     {"many", many}};
+           {"alive", alive},       {"stepped", stepped},     {"many", many},
+           {"huge", huge}};
 
 int main(int count, char **argv)
 {

@@ -63,6 +63,14 @@ def check_many(suite: Suite, folder: str, program: str) -> None:
     expect((ran.returncode, b" in use" in ran.stderr, b"modules" in ran.stderr), (99, True, False), ran.stderr)
 
 
+def check_huge(suite: Suite, folder: str, program: str) -> None:
+    """A freed block that is too large for a record is poison, and has its size and stacks."""
+    ran = run([RUN, "--", program, "huge"], folder, ASANCOL=suite.asancol)
+    wanted = (b": use-after-poison: load of 1 byte", b"is byte 1000 of a freed block of 5368709120 bytes\n",
+              b"  freed at\n", b"in huge ")
+    expect((ran.returncode, [it for it in wanted if it not in ran.stderr]), (99, []), ran.stderr.decode())
+
+
 def check_twice(suite: Suite, folder: str, program: str) -> None:
     """Of two threads that free a block at once one is told."""
     expect(found(suite, folder, program, "twice").kinds, {"free double-free": 500}, "faults")
@@ -99,6 +107,7 @@ def check_freed(suite: Suite, folder: str, program: str) -> None:
 
 def tests(suite: Suite, compiler: Compiler) -> None:
     program = suite.built(compiler.c, [f"{TESTS}/forward.c"], f"forward-{compiler}", "-O1", "-w", "-pthread")
-    for name, check in (("late", check_late), ("run", check_run), ("many", check_many), ("twice", check_twice),
-                        ("memory", check_memory), ("good", check_good), ("alive", check_alive), ("freed", check_freed)):
+    for name, check in (("late", check_late), ("run", check_run), ("many", check_many), ("huge", check_huge),
+                        ("twice", check_twice), ("memory", check_memory), ("good", check_good), ("alive", check_alive),
+                        ("freed", check_freed)):
         suite.test(f"{compiler} forward {name}", check, program)
