@@ -106,7 +106,7 @@ enum finding_kind {
     FINDING_OVERLAP,       /* two ranges of a call that have bytes in common */
     FINDING_NEGATIVE_SIZE,
     FINDING_OVERFLOW,      /* how much is to be allocated is past any size */
-    FINDING_ALIGNMENT,     /* there is no such alignment, or the size is no multiple of it */
+    FINDING_ALIGNMENT,     /* there is no such alignment, or the size is not a multiple of it */
     FINDING_TOO_BIG,       /* no block can have this size */
     FINDING_NOT_OWNED,     /* it is asked how large a block is, and none begins there */
     FINDING_OTHER_ALIGNMENT, /* a delete says another alignment than the new of its block, and maybe another size */

@@ -345,7 +345,7 @@ static pid_t start(const struct options *options, int *signals)
 static int check_files(const struct options *options)
 {
     if (!report_is_at(STDOUT_FILENO))
-        fail(OWN_FAILURE, "--files", "standard output is no socket: asancol-report --trace gives one");
+        fail(OWN_FAILURE, "--files", "standard output is not a socket: asancol-report --trace gives one");
     children_begin();
     int signals = signals_open();
     signals_ignore_writes();

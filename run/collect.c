@@ -458,7 +458,7 @@ void collect_files(const struct options *options, int signals)
         char *path;
         uint64_t number = strtoull(*word, &path, 10);
         if (number == 0 || *path++ != ':')
-            fail(OWN_FAILURE, *word, "it is no NUMBER:TRACE");
+            fail(OWN_FAILURE, *word, "it is not NUMBER:TRACE");
         wait_for_room();
         struct segment *segment = segment_add();
         segment->trace = path;

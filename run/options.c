@@ -143,7 +143,7 @@ static uint64_t number_of(const struct option *option, const char *text)
     uint64_t number;
     if (read_number(text, false, &number) && number >= option->least && number <= option->most)
         return number;
-    say("asancol-run: --%s: %s is no number from %" PRIu64 " to %" PRIu64, option->name, text,
+    say("asancol-run: --%s: %s is not a number from %" PRIu64 " to %" PRIu64, option->name, text,
         option->least, option->most);
     exit(OWN_FAILURE);
 }
@@ -154,7 +154,7 @@ static double seconds_of(const struct option *option, const char *text)
     uint64_t number;
     if (read_number(text, true, &number) && number >= option->least && number <= option->most * 1000)
         return (double)number / 1000;
-    say("asancol-run: --%s: %s is no number of seconds from %s to %" PRIu64, option->name, text,
+    say("asancol-run: --%s: %s is not a number of seconds from %s to %" PRIu64, option->name, text,
         option->least > 0 ? "0.001" : "0", option->most);
     exit(OWN_FAILURE);
 }
@@ -274,7 +274,7 @@ static bool is_passed(const struct options *options, const char *dashed, const c
 static void pass_name(struct options *options, enum action action, const char *dashed, const char *value)
 {
     if (strcmp(value, "-") == 0)
-        fail(OWN_FAILURE, dashed, "- is no file: standard input and output are the command's");
+        fail(OWN_FAILURE, dashed, "- is not a file: standard input and output are the command's");
     const char *name = name_expanded(dashed, value);
     if (action == PASS_OUTPUT && name_descriptor(name) >= 0) {
         pass_descriptor(options, dashed, name);
@@ -306,7 +306,7 @@ static void pass_word(struct options *options, const struct option *option, cons
         for (size_t i = 0, length = 0; i < place && length < sizeof words; i++)
             length += (size_t)snprintf(words + length, sizeof words - length, "%s%s", option->words[i],
                                        i + 2 < place ? ", " : i + 1 < place ? " and " : "");
-        say("asancol-run: %s: %s is none of %s", dashed, value, words);
+        say("asancol-run: %s: %s is not one of %s", dashed, value, words);
         exit(OWN_FAILURE);
     }
     if (option->offset == AT(unchecked))

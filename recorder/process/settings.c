@@ -105,12 +105,12 @@ static void add_number(char *text, size_t room, uint64_t number)
     add(text, room, put_digits(digits + sizeof digits, number, 1));
 }
 
-/* "VALUE is no number from LEAST to MOST, and OTHERWISE holds" */
+/* "VALUE is not a number from LEAST to MOST, and OTHERWISE holds" */
 static void say_no_number(const char *name, const char *value, uint64_t least, uint64_t most, uint64_t otherwise)
 {
     char why[256] = "";
     strncat(why, value, 64);
-    add(why, sizeof why, " is no number from ");
+    add(why, sizeof why, " is not a number from ");
     add_number(why, sizeof why, least);
     add(why, sizeof why, " to ");
     add_number(why, sizeof why, most);

@@ -32,7 +32,7 @@ static const char *open_side_file(struct output *side, const char *trace, unsign
 
 bool opening_side(struct output *side, const struct output *trace, unsigned number)
 {
-    const char *of = trace->path, *why = "it is no file";
+    const char *of = trace->path, *why = "it is not a file";
     if (trace->is_mapped) {
         why = open_side_file(side, trace->path, number);
         of = side->path;

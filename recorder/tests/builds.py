@@ -326,7 +326,7 @@ def check_kinds(suite, folder, compiler):
     # Words of the compiler's own are looked at too.
     foreign = ["-c", "-DVALUE=1", "helper.c"]
     made.cc(*foreign, command=f"{name} -m32", warning="-m32: with this nothing is recorded")
-    warning = "-fsanitize=thread: take it out: with this nothing is recorded"
+    warning = "-fsanitize=thread: remove it: with this nothing is recorded"
     made.cc(*foreign, command=f"{name} -fsanitize=thread", warning=warning)
     if name == "clang":
         made.cc(*foreign, "-fsanitize=safe-stack", warning=warning.replace("thread", "safe-stack"))

@@ -37,7 +37,7 @@ CLASSES = {
 # The text of some.
 WORDS = {
     "aligned_alloc": "alignment 7 of 14 bytes in aligned_alloc",
-    "aligned_alloc_size": "alignment 64 of 10 bytes in aligned_alloc: the size is no multiple of it",
+    "aligned_alloc_size": "alignment 64 of 10 bytes in aligned_alloc: the size is not a multiple of it",
     "sized_aligned": "operator delete of 32 bytes, and 64 bytes were allocated",
     "aligned_plain": "operator delete with no alignment, and 10 bytes with alignment 64 were allocated",
     "plain_aligned": "operator delete with alignment 64, and 10 bytes with no alignment were allocated",

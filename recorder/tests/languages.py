@@ -264,9 +264,9 @@ def check_cargo_errors(suite: Suite, folder: str) -> None:
            f"asancol-cargo: {version} does not know -Zexternal-clangrt: a newer one is wanted\n", "an old one")
     for flags in ("-Cllvm-args=-asan-stack=0", "-C llvm-args=-asan-instrument-reads=false"):
         said = cargo(folder, "build", status=101, RUSTFLAGS=flags)[1]
-        expect("take it out: what would be compiled with this could lack checks\n" in said, True, flags)
+        expect("remove it: what would be compiled with this could lack checks\n" in said, True, flags)
     said = cargo(folder, "rustc", "--", "-Cllvm-args=-asan-stack=0", status=101)[1]
-    expect("take it out: what would be compiled with this could lack checks\n" in said, True, "after the target")
+    expect("remove it: what would be compiled with this could lack checks\n" in said, True, "after the target")
     none = cargo(folder, "build", status=1, RUSTC="./no-such-one")[1]
     expect("asancol-cargo: ./no-such-one does not say what it builds for\n" in none, True, "none")
 

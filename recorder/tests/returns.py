@@ -160,7 +160,8 @@ def check_setting(suite: Suite, folder: str, compiler: Compiler) -> None:
         expect(found(suite, folder, ASANCOL_USE_AFTER_RETURN="0"), [FOUND] if stays else [], f"{mode}, 0")
         expect(run(["./program"], folder, ASANCOL_HALT="1").returncode, -6, "to end at the first fault")
     ran = run(["./program"], folder, ASANCOL_TRACE="t.trace", ASANCOL_USE_AFTER_RETURN="2")
-    expect(ran.stderr.decode(), "asancol: ignored: ASANCOL_USE_AFTER_RETURN: 2 is no number from 0 to 1, and 1 holds\n")
+    expect(ran.stderr.decode(),
+           "asancol: ignored: ASANCOL_USE_AFTER_RETURN: 2 is not a number from 0 to 1, and 1 holds\n")
 
 
 WITHOUT = """

@@ -40,7 +40,7 @@ static void warn_of_unrecorded(const struct job *job)
     if (foreign == NULL && inputs->has_compiled && job->compiler == NULL)
         warn(job->command.items[0], UNKNOWN_COMPILER);
     if (foreign != NULL)
-        warn(foreign, is_sanitizer(foreign) ? "take it out: " NOTHING : NOTHING);
+        warn(foreign, is_sanitizer(foreign) ? "remove it: " NOTHING : NOTHING);
     else if (!compiles)
         return;
     else if (request->refusal != NULL)

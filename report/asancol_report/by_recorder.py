@@ -68,7 +68,7 @@ def of_call(suffix: str) -> Callable[[Fault], str]:
 
 def wrong_alignment(fault: Fault) -> str:
     is_power = fault.start != 0 and fault.start & (fault.start - 1) == 0
-    why = ": the size is no multiple of it" if is_power and fault.call == "aligned_alloc" else ""
+    why = ": the size is not a multiple of it" if is_power and fault.call == "aligned_alloc" else ""
     return f"alignment {fault.start} of {plural(fault.size, 'byte')} in {fault.call}{why}"
 
 

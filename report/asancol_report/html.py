@@ -128,7 +128,7 @@ class Page:
         notes = list(self.results.notes)
         notes += [f"A suppression matched nothing: {rule}" for rule in self.results.unused]
         if self.results.gone:
-            notes.append(f"{plural(self.results.gone, 'place')} of the baseline did not come up.")
+            notes.append(f"{plural(self.results.gone, 'place')} of the baseline not seen in this run.")
         return notes
 
     def findings(self, findings: List[Finding]) -> Iterator[str]:

@@ -52,7 +52,7 @@ class Hub:
         try:
             packets = socket.socket(fileno=os.dup(descriptor))
         except OSError:
-            raise Broken("--run: standard input is no socket: asancol-run gives one") from None
+            raise Broken("--run: standard input is not a socket: asancol-run gives one") from None
         self.read_packets(packets)
         if self.gatherer is None:
             raise Broken("--run: no run came on standard input")

@@ -73,7 +73,7 @@ def trouble_of(head: bytes) -> str:
         return f" is cut after {plural(len(head), 'byte')}, as on a full disk: record again to see where each event was"
     if head.startswith(MAGIC):
         return " was recorded by another release: read it with that one"
-    return " is no side file: record with ASANCOL_WHERE=1 to see where each event was"
+    return " is not a side file: record with ASANCOL_WHERE=1 to see where each event was"
 
 
 class Mapping(NamedTuple):

@@ -204,7 +204,7 @@ class Text:
         for rule in results.unused:
             yield f"asancol: a suppression matched nothing: {printable(rule)}"
         if results.gone:
-            yield f"asancol: {plural(results.gone, 'place')} of the baseline did not come up"
+            yield f"asancol: {plural(results.gone, 'place')} of the baseline not seen in this run"
         for note in results.notes:
             yield f"asancol: {printable(self.short.get(note, note))}"
         yield from self.last_line((*results.counted(), *results.counted_crashes())[:1])

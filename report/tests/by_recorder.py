@@ -113,7 +113,8 @@ def alignments(folder: str) -> None:
     here, made, of_new = program.places["use"], program.places["make"], "new-delete-type-mismatch"
     for it, title in (
         (finding(ALIGNMENT, here, call="aligned_alloc", given=(64, 10)),
-         "invalid-aligned-alloc-alignment: alignment 64 of 10 bytes in aligned_alloc: the size is no multiple of it"),
+         "invalid-aligned-alloc-alignment: alignment 64 of 10 bytes in aligned_alloc: "
+         "the size is not a multiple of it"),
         (finding(ALIGNMENT, here, call="aligned_alloc", given=(0, 10)),
          "invalid-aligned-alloc-alignment: alignment 0 of 10 bytes in aligned_alloc"),
         (finding(OTHER_ALIGNMENT, here, 0x2000, 40, made, "operator delete", "operator new", (64, 0), other=32),

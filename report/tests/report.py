@@ -67,7 +67,7 @@ def trace_without_side_file(folder: str) -> None:
         (b"ASWH\2\0\0\0", 1 << 18, "was recorded by another release: read it with that one"),
         (b"", 0, "is cut after 0 bytes, as on a full disk"),
         (b"ASWH\5\0\0\0", 8, "is cut after 8 bytes, as on a full disk"),
-        (b"\x7fELF", 1 << 18, "is no side file: record with"),
+        (b"\x7fELF", 1 << 18, "is not a side file: record with"),
         (b"ASWH\4\0\0\0", 1 << 18, "was recorded by another release"),
         (b"ASWH\5\0\0\0", 1 << 18, ""),
     ):
@@ -363,7 +363,7 @@ def run_takes_anything(folder: str) -> None:
     expect(ran.err, "", "errors")
     ran = report(folder, "--run")
     expect(ran.status, 4, "no socket")
-    expect_in(ran.err, "standard input is no socket")
+    expect_in(ran.err, "standard input is not a socket")
     feed = Feed(folder, "--suppressions", "missing")
     feed.begin()
     feed.process(0, FREED + END)

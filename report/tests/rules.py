@@ -99,7 +99,7 @@ def baseline(folder: str) -> None:
     expect(ran.status, 1, "one is new")
     expect_in(ran.out, "3 reports at 1 place, 1 place known from the baseline")
     ran = report(folder, "less.jsonl", "--baseline", "a.jsonl")
-    expect_in(ran.out, "1 place of the baseline did not come up")
+    expect_in(ran.out, "1 place of the baseline not seen in this run")
     expect(report(folder, "a.jsonl", "--baseline", "missing").status, 4, "no baseline")
 
 

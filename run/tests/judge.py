@@ -243,7 +243,7 @@ def check_end_lines(suite: Suite, folder: str) -> None:
 
 def check_files(suite: Suite, folder: str) -> None:
     """asancol-run --files is for asancol-report alone."""
-    expect_ran(suite.run("--files", "1:x.trace"), 125, "standard output is no socket")
+    expect_ran(suite.run("--files", "1:x.trace"), 125, "standard output is not a socket")
     expect_ran(suite.run("--files"), 125, "there is no command")
     expect_ran(suite.run("--fil"), 125, "there is no option --fil", absent=["--files"])
 

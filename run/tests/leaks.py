@@ -57,7 +57,7 @@ def check_forms(suite: Suite, folder: str, compiler: str) -> None:
                "asancol: 3 reports at 3 places (3 by the recorder); 1 process, ", "\nSUMMARY: asancol: leak ",
                absent=["asancol: leaks:"])
     ran = run_it(suite, "--leaks=maybe", "--", program)
-    expect_ran(ran, 125, "asancol-run: --leaks: maybe is none of summary, no and yes\n")
+    expect_ran(ran, 125, "asancol-run: --leaks: maybe is not one of summary, no and yes\n")
 
 
 def check_rules(suite: Suite, folder: str, compiler: str) -> None:
