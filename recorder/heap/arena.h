@@ -266,7 +266,7 @@ struct nearest {
 bool arena_find_nearest(uintptr_t address, struct nearest *found);
 /* The same for the block in whose slot or run an address is, live or held, and where it begins. */
 bool arena_find_around(uintptr_t address, struct block *block, uintptr_t *start);
-/* Likewise whether it is of a block that was not recorded, and is freed for good. */
+/* Whether an address is of a block that was not recorded, and is freed for good. */
 bool arena_has_freed_unrecorded(uintptr_t address);
 
 #endif

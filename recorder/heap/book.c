@@ -256,8 +256,8 @@ static bool state_byte(struct entry *entry, uintptr_t granule, unsigned has)
     return has == GRANULE || record_poison_here(KIND_USER, granule + has, GRANULE - has);
 }
 
-/* The byte of a granule. The shadow of what is freed for good says only that it is bad, and that is all there is to say
-   of a block that was not recorded. */
+/* The byte of a granule. The shadow of retired memory says only that it is bad, which is all there is to say of a block
+   that was not recorded. */
 static unsigned char shade_of(uintptr_t granule)
 {
     struct found block;

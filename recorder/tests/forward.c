@@ -403,7 +403,7 @@ static void forgotten(size_t of)
     free(live);
 }
 
-/* So many gigabytes of addresses that are freed for good. */
+/* Frees addresses for good, in gigabytes. */
 static void many(size_t gigabytes)
 {
     char *freed = take(100);
