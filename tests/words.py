@@ -60,7 +60,7 @@ HABITS = [
     Habit(r"what becomes of", "a noun", 0),
     Habit(r"but for", "except", 0),
     Habit(r"(?:of|by) which nobody", "unknown", 0),
-    Habit(r"likewise", "the same", 6),
+    Habit(r"likewise", "the same", 0),
     Habit(r"(?<!there )(?:is|are|was|were) no", "is not a", 1),
     Habit(r"so many|as many as", "at most N", 0),
     Habit(r"(?:built|compiled|linked) so", "built this way", 0),
