@@ -87,7 +87,7 @@ IN_COMMENTS = re.compile(
     r"\b(?:what (?:is|are|was|were)|becomes of|but for|so many|as many as|want of|of which nobody|likewise|in vain|thus"
     r"|(?:built|compiled|linked) so|handed out again)\b", re.I
 )
-MOST_IN_COMMENTS = {"recorder/tests": 7, "run/tests": 1}
+MOST_IN_COMMENTS = {"recorder/tests": 3}
 COMMENT_OF_C = re.compile(r"/\*.*?\*/|//[^\n]*", re.S)
 COMMENT_OF_PYTHON = re.compile(r'"""(?:.*?)"""|#[^\n]*', re.S)
 BREAK = re.compile(r"\s*\n[\s*#/]*")

@@ -17,25 +17,24 @@ from support import RECORDER
 
 HEAD = """# Calls of the C library
 
-What the recorder records of a call, as loads and stores at the place of the call
-([RECORDER.md](RECORDER.md#calls-of-the-c-library)). If all of it is good, that is nothing. Calls that [libraries
-make](RECORDER.md#plain-libraries) count as the program's own, except those of mathematics. `make docs` makes this page
-from [calls.def](../recorder/calls/calls.def).
+The loads and stores that the recorder records of each call, at the place of the call
+([RECORDER.md](RECORDER.md#calls-of-the-c-library)). If all are good, nothing is recorded. Calls that [libraries
+make](RECORDER.md#plain-libraries) count as the program's own, except those of mathematics. `make docs` generates this
+page from [calls.def](../recorder/calls/calls.def).
 
-A name that the C library at hand does not have is left out when the recorder is built. Names that begin with `__` are
-those that headers put in the place of a function: `__..._chk` with `_FORTIFY_SOURCE`, `__isoc99_` and `__isoc23_` by
-the standard of C. At the former the C library ends the process if there is less room than a call may take: what the
-call would write is recorded before that. What is read and written after the call counts as far as the result says:
-conditions are about that. What goes out is looked at before the call and recorded after it.
+A name that this C library does not have is omitted when the recorder is built. Names that begin with `__` are those
+that headers put in the place of a function: `__..._chk` with `_FORTIFY_SOURCE`, `__isoc99_` and `__isoc23_` by the
+standard of C. In the former the C library ends the process if there is less room than a call may take; the accesses of
+the call are recorded before that. Reads and writes after the call count as far as its result says: the conditions are
+about that. Output is checked before the call and recorded after it.
 
-A string that a function takes is looked at up to its end, as AddressSanitizer does with `strict_string_checks`. But if
-it is searched or compared, or has a number (`strtol`, `atoi`), only what is read counts; of `%9s` of `scanf` what was
-stored. Of formats that is not looked at which follows a position (`%1$s`) or a conversion that the program has
+A string that a function takes is checked up to its end, as by AddressSanitizer with `strict_string_checks`. But if it
+is searched or compared, or has a number (`strtol`, `atoi`), only the part that is read counts; for `%9s` of `scanf` the
+part that is stored. Not checked in formats are conversions after a position (`%1$s`) or after one that the program has
 registered, `%ls` with a precision, and a `%n` of `scanf` after its last value and other text than blanks.
 
-Functions that are not here are not recorded. Of these AddressSanitizer looks at XDR, `crypt`, `tmpnam`, `tempnam`, and
-requests of `ioctl` beside the common ones. `exec` and its like are not here: what they read is recorded, the path, the
-words and the environment.
+Other functions are not recorded. Of these AddressSanitizer checks XDR, `crypt`, `tmpnam`, `tempnam`, and further
+requests of `ioctl`. `exec` and its like are recorded, but not listed: the path, the arguments and the environment.
 """
 
 CONDITIONS = {

@@ -1,5 +1,5 @@
 """The library of C++: strings and streams have checks, whether an object takes them from the recorder's archive or they
-are compiled with the program. Programs and shared objects that were built so work beside others, whatever they take
+are compiled with the program. Programs and shared objects built this way work beside others, whatever they take
 from the library."""
 
 import os
