@@ -2,21 +2,21 @@
 #include "base/actions.h"
 
 #include "base/platform.h"
+#include "base/processor_stubs.h"
 #include "base/system.h"
 
 enum { WITH_RESTORER = 0x04000000 };
 
-/* What a handler returns to. Debuggers and unwinders know it by these bytes. */
+/* What a handler returns to. */
 void return_from_handler(void) OWN_NAME(return_from_handler);
-__asm__(".pushsection .text\n"
+TOP_ASM(".pushsection .text\n"
         ".p2align 4\n"
-        "\tnop\n" /* an unwinder looks at the byte before a return address */
+        BEFORE_END_OF_HANDLER
         ".hidden asancol_return_from_handler\n"
         ".globl asancol_return_from_handler\n"
         ".type asancol_return_from_handler,@function\n"
         "asancol_return_from_handler:\n"
-        "\tmovq $15, %rax\n"
-        "\tsyscall\n"
+        END_OF_HANDLER
         ".size asancol_return_from_handler, .-asancol_return_from_handler\n"
         ".popsection\n");
 

@@ -7,6 +7,7 @@
 #include <stdbool.h>
 #include <stdint.h>
 
+#include "base/processor.h"
 #include "base/system.h"
 
 /* Zeros: it is free. */
@@ -33,7 +34,7 @@ static inline void lock_take(struct lock *lock)
             return;
         if (state == LOCK_AWAITED)
             break;
-        __builtin_ia32_pause();
+        processor_pause();
     }
     while (atomic_exchange_explicit(&lock->state, LOCK_AWAITED, memory_order_acquire) != LOCK_FREE)
         system_futex(&lock->state, FUTEX_WAIT_PRIVATE, LOCK_AWAITED);

@@ -9,11 +9,30 @@
 #include "base/platform.h"
 #include "base/system.h"
 
+#if MAY_BE_EMULATED
+
+/* An emulator may not know the call: then it is asked of each page whether it is there. */
+static bool read_by_pages(uint64_t from, void *to, size_t size)
+{
+    struct known_page page = {0};
+    if (!memory_is_there(&page, from, size))
+        return false;
+    memcpy(to, (const void *)(uintptr_t)from, size);
+    return true;
+}
+
+#endif
+
 /* The system copies it, and answers where a load of our own would fault. */
 bool memory_read(uint64_t from, void *to, size_t size)
 {
     struct iovec here = {to, size}, there = {(void *)(uintptr_t)from, size};
-    return system_process_vm_readv(system_getpid(), &here, &there, 1) == (ssize_t)size;
+    ssize_t done = system_process_vm_readv(system_getpid(), &here, &there, 1);
+#if MAY_BE_EMULATED
+    if (done == -ENOSYS)
+        return read_by_pages(from, to, size);
+#endif
+    return done == (ssize_t)size;
 }
 
 size_t memory_read_each(const uint64_t *from, unsigned char *const *to, size_t count, size_t size)
@@ -26,6 +45,11 @@ size_t memory_read_each(const uint64_t *from, unsigned char *const *to, size_t c
         there[i] = (struct iovec){(void *)(uintptr_t)from[i], size};
     }
     ssize_t done = system_process_vm_readv(system_getpid(), here, there, count);
+#if MAY_BE_EMULATED
+    for (size_t i = 0; done == -ENOSYS; i++)
+        if (i == count || !read_by_pages(from[i], to[i], size))
+            return i;
+#endif
     return done > 0 ? (size_t)done / size : 0;
 }
 
@@ -63,7 +87,7 @@ static bool is_page_there(uintptr_t page)
 
 bool memory_is_there(struct known_page *known, uintptr_t address, size_t size)
 {
-    if (address < PAGE || address >= ADDRESS_END || size > ADDRESS_END - address)
+    if (address < PAGE || address >= MEMORY_END || size > MEMORY_END - address)
         return false;
     for (uintptr_t page = address / PAGE * PAGE; page < address + size; page += PAGE) {
         if (page == known->start)
@@ -82,6 +106,10 @@ bool memory_is_there(struct known_page *known, uintptr_t address, size_t size)
 bool memory_is_all_there(uintptr_t start, uintptr_t end)
 {
     uintptr_t first = start / PAGE * PAGE, last = (end + PAGE - 1) / PAGE * PAGE;
-    return start >= PAGE && start < end && end <= ADDRESS_END
+#if MAY_BE_EMULATED
+    if (system_madvise(NULL, PAGE, MADV_POPULATE_READ) == 0)
+        return false; /* it is taken for a hint: nothing is there */
+#endif
+    return start >= PAGE && start < end && end <= MEMORY_END
            && system_madvise((const void *)first, last - first, MADV_POPULATE_READ) == 0;
 }

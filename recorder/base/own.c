@@ -4,12 +4,12 @@
 
    Wrapped functions that a check calls for the program are apart from these: they are `__real_` and the name. */
 #define _GNU_SOURCE
-#include <emmintrin.h>
 #include <stddef.h>
 #include <stdint.h>
 #include <string.h>
 #include <wchar.h>
 
+#include "base/platform.h"
 #include "calls/library.h"
 
 #ifndef IS_STATIC
@@ -24,10 +24,9 @@ int *__errno_location(void)
 #endif
 
 /* Without this a compiler may see in a loop the very function that it is to be. */
-#define STEP_BY_STEP __asm__ volatile("" : : : "memory")
+#define STEP_BY_STEP STAYS_IN_ORDER
 
-/* From this many bytes on the processor's own instruction is the fastest. */
-enum { MANY = 512, BLOCK = sizeof(__m128i) };
+enum { BLOCK = sizeof(bytes16) };
 
 /* Fewer than BLOCK bytes, as two pieces that may have bytes in common: both are read before one is written. */
 static void copy_few(unsigned char *to, const unsigned char *from, size_t size)
@@ -57,8 +56,8 @@ void *memcpy(void *restrict to, const void *restrict from, size_t size)
 {
     unsigned char *at = to;
     const unsigned char *source = from;
-    if (size >= MANY) {
-        __asm__ volatile("rep movsb" : "+D"(at), "+S"(source), "+c"(size) : : "memory");
+    if (size >= MANY_BYTES) {
+        processor_copy_many(at, source, size);
         return to;
     }
     if (size < BLOCK) {
@@ -66,12 +65,12 @@ void *memcpy(void *restrict to, const void *restrict from, size_t size)
         return to;
     }
     unsigned char *end = at + size - BLOCK;
-    __m128i last = _mm_loadu_si128((const __m128i *)(source + size - BLOCK));
+    bytes16 last = bytes16_load(source + size - BLOCK);
     for (; at < end; at += BLOCK, source += BLOCK) {
         STEP_BY_STEP;
-        _mm_storeu_si128((__m128i *)at, _mm_loadu_si128((const __m128i *)source));
+        bytes16_store(at, bytes16_load(source));
     }
-    _mm_storeu_si128((__m128i *)end, last);
+    bytes16_store(end, last);
     return to;
 }
 
@@ -92,23 +91,23 @@ void *memmove(void *to, const void *from, size_t size)
 void *memset(void *to, int byte, size_t size)
 {
     unsigned char *at = to;
-    __m128i bytes = _mm_set1_epi8((char)byte);
-    if (size >= MANY) {
-        __asm__ volatile("rep stosb" : "+D"(at), "+c"(size) : "a"(byte) : "memory");
+    bytes16 bytes = bytes16_of(byte);
+    if (size >= MANY_BYTES) {
+        processor_set_many(at, byte, size);
         return to;
     }
     if (size < BLOCK) {
         unsigned char few[BLOCK];
-        _mm_storeu_si128((__m128i *)few, bytes);
+        bytes16_store(few, bytes);
         copy_few(at, few, size);
         return to;
     }
     unsigned char *end = at + size - BLOCK;
     for (; at < end; at += BLOCK) {
-        _mm_storeu_si128((__m128i *)at, bytes);
+        bytes16_store(at, bytes);
         STEP_BY_STEP;
     }
-    _mm_storeu_si128((__m128i *)end, bytes);
+    bytes16_store(end, bytes);
     return to;
 }
 
@@ -124,14 +123,14 @@ int memcmp(const void *one, const void *other, size_t size)
 }
 
 /* Which of the 16 bytes from here on are this one: a bit for each. They lie in one page. */
-static unsigned matches(uintptr_t at, __m128i bytes)
+static unsigned matches(uintptr_t at, bytes16 bytes)
 {
-    return (unsigned)_mm_movemask_epi8(_mm_cmpeq_epi8(_mm_load_si128((const __m128i *)at), bytes));
+    return bytes16_same_there(at, bytes);
 }
 
 void *memchr(const void *in, int byte, size_t size)
 {
-    __m128i bytes = _mm_set1_epi8((char)byte);
+    bytes16 bytes = bytes16_of(byte);
     uintptr_t start = (uintptr_t)in, at = start / BLOCK * BLOCK;
     if (size == 0)
         return NULL;
@@ -149,17 +148,17 @@ void *memchr(const void *in, int byte, size_t size)
 size_t strlen(const char *text)
 {
     uintptr_t start = (uintptr_t)text, at = start / BLOCK * BLOCK;
-    unsigned found = matches(at, _mm_setzero_si128()) >> (start - at);
+    unsigned found = matches(at, bytes16_of_zeros()) >> (start - at);
     if (found != 0)
         return (unsigned)__builtin_ctz(found);
-    while ((found = matches(at += BLOCK, _mm_setzero_si128())) == 0)
+    while ((found = matches(at += BLOCK, bytes16_of_zeros())) == 0)
         ;
     return at - start + (unsigned)__builtin_ctz(found);
 }
 
 char *strchr(const char *text, int letter)
 {
-    __m128i letters = _mm_set1_epi8((char)letter), none = _mm_setzero_si128();
+    bytes16 letters = bytes16_of(letter), none = bytes16_of_zeros();
     uintptr_t start = (uintptr_t)text, at = start / BLOCK * BLOCK;
     unsigned found = (matches(at, letters) | matches(at, none)) >> (start - at) << (start - at);
     while (found == 0) {

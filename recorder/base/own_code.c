@@ -7,10 +7,10 @@
 #define HIDDEN __attribute__((visibility("hidden"), weak))
 
 /* What the linker says of the two sections (Makefile). */
-extern const char own_begin[] __asm__("__start_asancol_own_text") HIDDEN;
-extern const char own_end[] __asm__("__stop_asancol_own_text") HIDDEN;
-extern const char helpers_begin[] __asm__("__start_asancol_helper_text") HIDDEN;
-extern const char helpers_end[] __asm__("__stop_asancol_helper_text") HIDDEN;
+extern const char own_begin[] NAMED("__start_asancol_own_text") HIDDEN;
+extern const char own_end[] NAMED("__stop_asancol_own_text") HIDDEN;
+extern const char helpers_begin[] NAMED("__start_asancol_helper_text") HIDDEN;
+extern const char helpers_end[] NAMED("__stop_asancol_helper_text") HIDDEN;
 
 static bool is_between(uintptr_t address, const char *begin, const char *end)
 {
@@ -32,16 +32,14 @@ bool own_code_has(uintptr_t instruction, uintptr_t frame)
 }
 
 /* No compiler may go to the function in place of a call: the frame here says for whom it works. */
-#define STAYS __asm__ volatile("" : : : "memory")
-
 OF_PROGRAM void program_clear(void *to, size_t size)
 {
     memset(to, 0, size);
-    STAYS;
+    STAYS_IN_ORDER;
 }
 
 OF_PROGRAM void program_copy(void *to, const void *from, size_t size)
 {
     memcpy(to, from, size);
-    STAYS;
+    STAYS_IN_ORDER;
 }

@@ -4,6 +4,8 @@
 
 #include <stdint.h>
 
+#include "base/processor.h"
+
 #define LIKELY(x) __builtin_expect(!!(x), 1)
 #define UNLIKELY(x) __builtin_expect(!!(x), 0)
 #define CALLER() ((uintptr_t)__builtin_return_address(0))
@@ -14,13 +16,20 @@
    (Makefile). */
 #define REPLACES VISIBLE __attribute__((weak))
 /* For what several members of an archive use: a program may have the name itself. */
-#define OWN_NAME(name) __asm__("asancol_" #name)
+#define OWN_NAME(name) NAMED("asancol_" #name)
+/* Whatever a declaration is called, for linkers it has this name. */
+#define NAMED(label) __asm__(label)
 
 /* Of variables that have a page or more, of which little is touched, or seldom. They lie behind all others (zeros.ld),
    so that those share few pages: each start and each forked child touches these. */
 #define AS_TABLE __attribute__((section(".bss.table")))
 
-/* How many bytes a page has. */
-enum { PAGE = 4096 };
+/* For the compiler alone: what was written before is in memory here, and what is read after is read from there. */
+#define STAYS_IN_ORDER __asm__ volatile("" : : : "memory")
+/* Likewise, and nobody knows what this may lead to. */
+#define STAYS_AT(place) __asm__ volatile("" : : "r"(place) : "memory")
+/* A text for the assembler outside of functions; and in one what it writes of the frame. */
+#define TOP_ASM __asm__
+#define DESCRIBE __asm__ volatile
 
 #endif

@@ -17,45 +17,13 @@
 #include <sys/uio.h>
 #include <time.h>
 
-#define SYSTEM_CALL static inline __attribute__((always_inline))
+#include "base/processor.h"
 
-SYSTEM_CALL long system_call6(long number, long first, long second, long third, long fourth, long fifth, long sixth)
-{
-    register long r10 __asm__("r10") = fourth, r8 __asm__("r8") = fifth, r9 __asm__("r9") = sixth;
-    long result;
-    __asm__ volatile("syscall"
-                     : "=a"(result)
-                     : "a"(number), "D"(first), "S"(second), "d"(third), "r"(r10), "r"(r8), "r"(r9)
-                     : "rcx", "r11", "memory");
-    return result;
-}
-
-SYSTEM_CALL long system_call4(long number, long first, long second, long third, long fourth)
-{
-    register long r10 __asm__("r10") = fourth;
-    long result;
-    __asm__ volatile("syscall"
-                     : "=a"(result)
-                     : "a"(number), "D"(first), "S"(second), "d"(third), "r"(r10)
-                     : "rcx", "r11", "memory");
-    return result;
-}
-
-SYSTEM_CALL long system_call3(long number, long first, long second, long third)
-{
-    long result;
-    __asm__ volatile("syscall"
-                     : "=a"(result)
-                     : "a"(number), "D"(first), "S"(second), "d"(third)
-                     : "rcx", "r11", "memory");
-    return result;
-}
-
-/* Files and descriptors. */
+/* Files and descriptors. Newer processors have no calls without a folder, which is this one if it has no other. */
+enum { HERE = -100 }; /* AT_FDCWD */
 
 SYSTEM_CALL int system_open(const char *path, int flags, mode_t mode)
 {
-    enum { HERE = -100 }; /* AT_FDCWD */
     return (int)system_call4(SYS_openat, HERE, (long)path, flags, (long)mode);
 }
 
@@ -86,32 +54,56 @@ SYSTEM_CALL int system_fstat(int descriptor, struct stat *seen)
 
 SYSTEM_CALL int system_stat(const char *path, struct stat *seen)
 {
+#ifdef SYS_stat
     return (int)system_call3(SYS_stat, (long)path, (long)seen, 0);
+#else
+    return (int)system_call4(SYS_newfstatat, HERE, (long)path, (long)seen, 0);
+#endif
 }
 
 SYSTEM_CALL int system_unlink(const char *path)
 {
+#ifdef SYS_unlink
     return (int)system_call3(SYS_unlink, (long)path, 0, 0);
+#else
+    return (int)system_call3(SYS_unlinkat, HERE, (long)path, 0);
+#endif
 }
 
 SYSTEM_CALL ssize_t system_readlink(const char *path, char *to, size_t size)
 {
+#ifdef SYS_readlink
     return system_call3(SYS_readlink, (long)path, (long)to, (long)size);
+#else
+    return system_call4(SYS_readlinkat, HERE, (long)path, (long)to, (long)size);
+#endif
 }
 
 SYSTEM_CALL int system_rename(const char *from, const char *to)
 {
+#ifdef SYS_rename
     return (int)system_call3(SYS_rename, (long)from, (long)to, 0);
+#else
+    return (int)system_call4(SYS_renameat, HERE, (long)from, HERE, (long)to);
+#endif
 }
 
 SYSTEM_CALL int system_access(const char *path, int mode)
 {
+#ifdef SYS_access
     return (int)system_call3(SYS_access, (long)path, mode, 0);
+#else
+    return (int)system_call3(SYS_faccessat, HERE, (long)path, mode);
+#endif
 }
 
 SYSTEM_CALL int system_symlink(const char *text, const char *path)
 {
+#ifdef SYS_symlink
     return (int)system_call3(SYS_symlink, (long)text, (long)path, 0);
+#else
+    return (int)system_call3(SYS_symlinkat, (long)text, HERE, (long)path);
+#endif
 }
 
 SYSTEM_CALL int system_fcntl(int descriptor, int command, long argument)
@@ -141,12 +133,21 @@ SYSTEM_CALL int system_memfd_create(const char *name, unsigned flags)
 
 SYSTEM_CALL int system_dup2(int descriptor, int to)
 {
+#ifdef SYS_dup2
     return (int)system_call3(SYS_dup2, descriptor, to, 0);
+#else
+    return descriptor == to ? to : (int)system_call3(SYS_dup3, descriptor, to, 0);
+#endif
 }
 
 SYSTEM_CALL int system_poll(struct pollfd *descriptors, nfds_t count, int patience_ms)
 {
+#ifdef SYS_poll
     return (int)system_call3(SYS_poll, (long)descriptors, (long)count, patience_ms);
+#else
+    struct timespec patience = {patience_ms / 1000, patience_ms % 1000 * 1000000L};
+    return (int)system_call6(SYS_ppoll, (long)descriptors, (long)count, patience_ms < 0 ? 0 : (long)&patience, 0, 0, 0);
+#endif
 }
 
 SYSTEM_CALL int system_chdir(const char *path)

@@ -1,5 +1,8 @@
 /* Asks for all groups of calls, in a program that may have libraries which call any of them: asancol-cc asks for this,
    and so does what opens a library. */
+#include "base/platform.h"
+#include "base/processor_stubs.h"
+
 #define GROUP(name) "\t.long asancol_calls_" #name " - .\n"
 
 /* For memory_calls.c. */
@@ -8,12 +11,11 @@
     ".type asancol_every_" #name ",@function\n"                                                                        \
     "asancol_every_" #name ":\n"                                                                                       \
     "\t.cfi_startproc\n"                                                                                               \
-    "\tendbr64\n"                                                                                                      \
-    "\tjmp *__wrap_" #name "@GOTPCREL(%rip)\n"                                                                         \
+    LANDING GO_BY_SLOT("__wrap_" #name)                                                                                \
     "\t.cfi_endproc\n"                                                                                                 \
     ".size asancol_every_" #name ", .-asancol_every_" #name "\n"
 
-__asm__(".pushsection .text\n"
+TOP_ASM(".pushsection .text\n"
         "\t.balign 16\n"
         ".globl asancol_every_call\nasancol_every_call:\n"
 #include "out/groups.def"

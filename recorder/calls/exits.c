@@ -109,17 +109,10 @@ CHECK void note_caller_of_vfork(uintptr_t stack)
 }
 
 GUARD_OWN(vfork);
-__asm__(".pushsection .text\n"
+TOP_ASM(".pushsection .text\n"
         ".type checked_vfork,@function\nchecked_vfork:\n"
         "\t.cfi_startproc\n"
-        "\tendbr64\n"
-        "\tleaq 8(%rsp), %rdi\n"
-        "\tsubq $8, %rsp\n"
-        "\t.cfi_adjust_cfa_offset 8\n"
-        "\tcall note_caller_of_vfork\n"
-        "\taddq $8, %rsp\n"
-        "\t.cfi_adjust_cfa_offset -8\n"
-        "\tjmp *__real_vfork@GOTPCREL(%rip)\n"
+        LANDING CALL_WITH_STACK_ALONE("note_caller_of_vfork") GO_BY_SLOT("__real_vfork")
         "\t.cfi_endproc\n"
         ".size checked_vfork, .-checked_vfork\n"
         ".popsection\n");

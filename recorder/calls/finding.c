@@ -8,7 +8,7 @@
 #include "stacks/cfi.h"
 
 #ifndef IN_SHARED_OBJECT
-__asm__(".pushsection .text\n\t.balign 4\n\t.long asancol_every_call - .\n.popsection\n");
+TOP_ASM(".pushsection .text\n\t.balign 4\n\t.long asancol_every_call - .\n.popsection\n");
 #endif
 
 REAL(void *, dlsym, (void *, const char *));

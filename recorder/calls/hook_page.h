@@ -8,8 +8,9 @@
 #include <stdbool.h>
 #include <stdint.h>
 
-/* Beside the maps of the shadow. In the assembly of stubs.h it is a number. */
-#define HOOK_PAGE_START 0x500000000000
+#include "base/processor.h"
+
+/* Beside the maps of the shadow (HOOK_PAGE_START in processor.h). */
 #define HOOK_PAGE ((const struct hook_page *)HOOK_PAGE_START)
 
 struct recorder_hooks;

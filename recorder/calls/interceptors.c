@@ -6,13 +6,14 @@
    C library's, without a check, or to the allocator.
 
    One member of the library, that comes in only if it is asked for. */
+#include "base/processor_stubs.h"
 #include "calls/library.h"
 #include "shadow/mapping.h"
 
 #define BEGIN(name)                                                                                                    \
     ".weak __interceptor_" #name "\n" SHOWN("__interceptor_" #name)                                                    \
     ".type __interceptor_" #name ",@function\n__interceptor_" #name ":\n"
-#define GO(name) "\t.weak " #name "\n\tjmp *" #name "@GOTPCREL(%rip)\n"
+#define GO(name) "\t.weak " #name "\n" GO_BY_SLOT(#name)
 #define BY_NAME(name) BEGIN(name) GO(name)
 
 #ifdef IN_SHARED_OBJECT
@@ -22,12 +23,10 @@
 #else
 #define SHOWN(name)
 #define BELOW(name) BEGIN(name) GO(__libc_##name)
-/* Whether the function is the program's own, whose code is between two addresses. */
 #define WRAP(name)                                                                                                     \
     BEGIN(name)                                                                                                        \
-    "\t.weak __real_" #name "\n\tmovq __real_" #name "@GOTPCREL(%rip), %r11\n"                                         \
-    "\tleaq __ehdr_start(%rip), %r10\n\tsubq %r10, %r11\n\tcmpq program_size(%rip), %r11\n\tjb 1f\n" GO(name)          \
-    "1:\tjmp *2f(%rip)\n"                                                                                              \
+    "\t.weak __real_" #name "\n" GO_IF_OF_PROGRAM("__real_" #name, "program_size", "1f") GO(name)                      \
+    "1:" GO_BY_POINTER("2f")                                                                                           \
     "\t.pushsection .data\n2:\t.quad 0, 3f\n\t.popsection\n"                                                           \
     "\t.pushsection .rodata\n3:\t.asciz \"" #name "\"\n\t.popsection\n"
 #endif
@@ -42,7 +41,7 @@
 /* The text is longer than each compiler of the language has to take. */
 #pragma GCC diagnostic ignored "-Woverlength-strings"
 
-__asm__(".pushsection .data\n\t.balign 8\nnext_functions:\n\t.popsection\n"
+TOP_ASM(".pushsection .data\n\t.balign 8\nnext_functions:\n\t.popsection\n"
         ".pushsection .text\n"
         "\t.cfi_startproc\n"
         BELOW(malloc) BELOW(free) BELOW(calloc) BELOW(realloc) BELOW(reallocarray) BELOW(memalign) BELOW(valloc)

@@ -10,13 +10,13 @@ extern int *__errno_location(void);
 extern int __register_atfork(void (*)(void), void (*)(void), void (*)(void), void *);
 extern int __cxa_at_quick_exit(void (*)(void *), void *);
 extern int __clock_gettime(int, struct timespec *);
-extern int find_object(void *, struct dl_find_object *) __asm__("_dl_find_object") __attribute__((weak));
+extern int find_object(void *, struct dl_find_object *) NAMED("_dl_find_object") __attribute__((weak));
 extern int _IO_fputs(const char *, FILE *);
 extern int __cxa_atexit(void (*)(void *), void *, void *);
 extern int _IO_flush_all(void);
 extern char **__environ;
 extern void *__libc_stack_end;
-extern char single_threaded __asm__("__libc_single_threaded");
+extern char single_threaded NAMED("__libc_single_threaded");
 
 struct library library = {
     .__errno_location = __errno_location,
@@ -96,7 +96,7 @@ static const struct link_map *loaded(void)
 #else
 
 /* Of the program, made by the linker. */
-extern const Elf64_Dyn program_entries[] __asm__("_DYNAMIC") __attribute__((visibility("hidden")));
+extern const Elf64_Dyn program_entries[] NAMED("_DYNAMIC") __attribute__((visibility("hidden")));
 
 static const struct link_map *loaded(void)
 {

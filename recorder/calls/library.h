@@ -70,6 +70,12 @@ static inline bool library_is_alone(void)
     return *library.__libc_single_threaded != 0;
 }
 
+/* How much the C library keeps of a thread. */
+static inline size_t library_control_size(void)
+{
+    return library._thread_db_sizeof_pthread != NULL ? *library._thread_db_sizeof_pthread : (size_t)USUAL_CONTROL_SIZE;
+}
+
 /* Whether a file is a library of C++, by its name: its operators new and delete call malloc and free. */
 static inline bool library_is_of_cxx(const char *path)
 {

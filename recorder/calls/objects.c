@@ -133,7 +133,7 @@ uintptr_t object_find_moved(const struct object *program, const char *name)
     for (size_t i = 0; i < program->relocations_size / sizeof *program->relocations; i++) {
         const Elf64_Rela *it = &program->relocations[i];
         const Elf64_Sym *symbol = &program->symbols[ELF64_R_SYM(it->r_info)];
-        if (ELF64_R_TYPE(it->r_info) == R_X86_64_COPY && strcmp(program->texts + symbol->st_name, name) == 0)
+        if (ELF64_R_TYPE(it->r_info) == RELOCATES_COPY && strcmp(program->texts + symbol->st_name, name) == 0)
             return program->base + it->r_offset;
     }
     return 0;

@@ -20,6 +20,7 @@
 #include "calls/library.h"
 #include "calls/objects.h"
 #include "base/platform.h"
+#include "base/processor_stubs.h"
 #include "base/system.h"
 #include "common/text.h"
 #include "heap/heap.h"
@@ -137,26 +138,14 @@ __attribute__((used)) static struct answer answer_dlvsym(void *where, const char
 #endif
 
 #define FINDS(name, label)                                                                                             \
-    extern const unsigned char stub_of_##name[] __asm__(label) __attribute__((visibility("hidden")));                  \
-    __asm__(".pushsection .text\n"                                                                                     \
+    extern const unsigned char stub_of_##name[] NAMED(label) __attribute__((visibility("hidden")));                    \
+    TOP_ASM(".pushsection .text\n"                                                                                     \
             ".p2align 4\n"                                                                                             \
             ".globl " label "\n"                                                                                       \
             ".hidden " label "\n"                                                                                      \
             ".type " label ",@function\n" label ":\n"                                                                  \
             "\t.cfi_startproc\n"                                                                                       \
-            "\tendbr64\n"                                                                                              \
-            "\tpushq %rdi\n\t.cfi_adjust_cfa_offset 8\n"                                                               \
-            "\tpushq %rsi\n\t.cfi_adjust_cfa_offset 8\n"                                                               \
-            "\tpushq %rdx\n\t.cfi_adjust_cfa_offset 8\n"                                                               \
-            "\tcall answer_" #name "\n"                                                                                \
-            "\tmovq %rdx, %r11\n"                                                                                      \
-            "\tpopq %rdx\n\t.cfi_adjust_cfa_offset -8\n"                                                               \
-            "\tpopq %rsi\n\t.cfi_adjust_cfa_offset -8\n"                                                               \
-            "\tpopq %rdi\n\t.cfi_adjust_cfa_offset -8\n"                                                               \
-            "\ttestq %rax, %rax\n"                                                                                     \
-            "\tjz 1f\n"                                                                                                \
-            "\tret\n"                                                                                                  \
-            "1:\tjmp *%r11\n"                                                                                          \
+            LANDING RETURN_OR_GO("answer_" #name)                                                                      \
             "\t.cfi_endproc\n"                                                                                         \
             ".size " label ", .-" label "\n"                                                                           \
             ".popsection\n");
@@ -252,7 +241,7 @@ static struct object library_object;
    memcpy that was once a memmove. */
 static bool leads_to(const struct module *module, const Elf64_Rela *it, uintptr_t now, uintptr_t function)
 {
-    bool waits = ELF64_R_TYPE(it->r_info) == R_X86_64_JUMP_SLOT && range_has(module->all, now);
+    bool waits = ELF64_R_TYPE(it->r_info) == RELOCATES_CALL && range_has(module->all, now);
     return (now == function || waits) && object_asks_for_new(&module->object, ELF64_R_SYM(it->r_info), &library_object);
 }
 
@@ -262,8 +251,8 @@ static void lead(struct module *module, const Elf64_Rela *it)
     const Elf64_Sym *symbol = &module->object.symbols[ELF64_R_SYM(it->r_info)];
     uintptr_t place = module->object.base + it->r_offset;
     struct way way;
-    bool is_slot = type == R_X86_64_JUMP_SLOT || type == R_X86_64_GLOB_DAT
-                   || (type == R_X86_64_64 && it->r_addend == 0);
+    bool is_slot = type == RELOCATES_CALL || type == RELOCATES_SLOT
+                   || (type == RELOCATES_WORD && it->r_addend == 0);
     if (!is_slot || symbol->st_shndx != SHN_UNDEF || !find_way(module->object.texts + symbol->st_name, &way)
         || (!way.is_export && !module->is_plain) || !is_writable(module->info, place))
         return;

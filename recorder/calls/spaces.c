@@ -97,7 +97,7 @@ static struct span stack_of(const ucontext_t *context, uintptr_t address)
 /* `old` is null if the caller is left for good. */
 __attribute__((used)) static void before_switch(const ucontext_t *old, const ucontext_t *new, uintptr_t frame)
 {
-    uintptr_t target = (uintptr_t)new->uc_mcontext.gregs[REG_RSP];
+    uintptr_t target = CONTEXT_STACK(new);
     struct stack_switch it = {.frame = frame, .target = target, .goes_on = old != NULL, .says_stacks = true};
     it.to = stack_of(new, target);
     if (old != NULL)
@@ -107,19 +107,10 @@ __attribute__((used)) static void before_switch(const ucontext_t *old, const uco
 
 /* What follows calls `before` with the first two arguments and the frame of the caller, and goes to the function. */
 #define NOTED(label, name, before, pass)                                                                               \
-    __asm__(".pushsection .text\n"                                                                                     \
+    TOP_ASM(".pushsection .text\n"                                                                                     \
             ".type " label ",@function\n" label ":\n"                                                                  \
             "\t.cfi_startproc\n"                                                                                       \
-            "\tendbr64\n"                                                                                              \
-            "\tpushq %rdi\n\t.cfi_adjust_cfa_offset 8\n"                                                               \
-            "\tpushq %rsi\n\t.cfi_adjust_cfa_offset 8\n"                                                               \
-            "\tpushq %rdx\n\t.cfi_adjust_cfa_offset 8\n"                                                               \
-            "\tleaq 32(%rsp), %rdx\n" pass                                                                             \
-            "\tcall " #before "\n"                                                                                     \
-            "\tpopq %rdx\n\t.cfi_adjust_cfa_offset -8\n"                                                               \
-            "\tpopq %rsi\n\t.cfi_adjust_cfa_offset -8\n"                                                               \
-            "\tpopq %rdi\n\t.cfi_adjust_cfa_offset -8\n"                                                               \
-            "\tjmp *__real_" #name "@GOTPCREL(%rip)\n"                                                                 \
+            LANDING CALL_WITH_STACK(#before, pass) GO_BY_SLOT("__real_" #name)                                         \
             "\t.cfi_endproc\n"                                                                                         \
             ".size " label ", .-" label "\n"                                                                           \
             ".popsection\n");
@@ -129,7 +120,7 @@ __attribute__((used)) static void before_switch(const ucontext_t *old, const uco
     NOTED("checked_" #name, name, before_switch, pass)
 
 SWITCH(swapcontext, "")
-SWITCH(setcontext, "\tmovq %rdi, %rsi\n\txorl %edi, %edi\n")
+SWITCH(setcontext, FIRST_IS_SECOND)
 
 /* Those of Boost.Context, whose callers are its headers. A context is its stack pointer. */
 
@@ -145,7 +136,7 @@ __attribute__((used)) static void before_jump(uintptr_t target, const void *unus
 }
 
 #define OF_BOOST(name, before)                                                                                         \
-    __asm__(".weak __real_" #name "\n" BIND("__wrap_" #name) HIDE("__wrap_" #name));                                   \
+    TOP_ASM(".weak __real_" #name "\n" BIND("__wrap_" #name) HIDE("__wrap_" #name));                                   \
     NOTED("__wrap_" #name, name, before, "")
 
 OF_BOOST(make_fcontext, before_make)

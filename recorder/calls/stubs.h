@@ -6,6 +6,7 @@
 
 #include <stddef.h>
 
+#include "base/processor_stubs.h"
 #include "calls/hook_page.h"
 #include "shadow/shadow.h"
 
@@ -28,49 +29,37 @@ _Static_assert(offsetof(struct hook_page, program) == 56, "as the stubs have it"
 #define BIND(label) ".weak " label "\n"
 #endif
 
-/* Goes to `check` if the code of `tested` is in the range of the hook page that begins there. */
-#define GO_IF_IN(start, size, tested, check)                                                                           \
-    "\tmovq " tested "@GOTPCREL(%rip), %r11\n"                                                                         \
-    "\tsubq " start "(%r10), %r11\n"                                                                                   \
-    "\tcmpq " size "(%r10), %r11\n"                                                                                    \
-    "\tjb " check "\n"
-
 /* `label` goes to `check` if the code of `tested` is in one of the three ranges of the hook page, and else to
    `real`. */
 #define GUARD(label, tested, check, real) GUARD_AFTER("", label, tested, check, real)
 #define GUARD_AFTER(first, label, tested, check, real)                                                                 \
-    __asm__(".pushsection .text\n"                                                                                     \
+    TOP_ASM(".pushsection .text\n"                                                                                     \
             ".p2align 4\n"                                                                                             \
             HIDE(label) ".type " label ",@function\n" label ":\n.L" label ":\n"                                        \
             "\t.cfi_startproc\n"                                                                                       \
-            "\tendbr64\n" first                                                                                        \
-            "\tmovabsq $" TEXT(HOOK_PAGE_START) ", %r10\n"                                                             \
-            GO_IF_IN("8", "16", tested, check)                                                                         \
-            GO_IF_IN("24", "32", tested, check)                                                                        \
-            GO_IF_IN("40", "48", tested, check)                                                                        \
-            "\tjmp *" real "@GOTPCREL(%rip)\n"                                                                         \
+            LANDING first GO_IF_CHECKED(tested, check, real)                                                           \
             "\t.cfi_endproc\n"                                                                                         \
             ".size " label ", .-" label "\n"                                                                           \
             ".popsection\n");
 
 /* The function itself, apart from what a header declares and from the recorder's own of that name. */
-#define REAL(type, name, parameters) extern type real_##name parameters __asm__("__real_" #name)
+#define REAL(type, name, parameters) extern type real_##name parameters NAMED("__real_" #name)
 
 /* The program's stubs of the C library are in a list (plain.c): how far from there the stub is, the pointer to its
    function, and the name. A program may wrap the function by itself, so the stub is not meant by its name. */
 #define IN_LIST ".pushsection asancol_stubs,\"a\",@progbits\n\t.balign 4\n"
 #define LISTED(name)                                                                                                   \
-    __asm__(IN_LIST                                                                                                    \
+    TOP_ASM(SLOT_FOR_LIST("__real_" #name) IN_LIST                                                                     \
             "\t.long .L__wrap_" #name " - .\n"                                                                         \
-            "\t.long __real_" #name "@GOTPCREL\n"                                                                      \
+            SLOT_OF_LIST("__real_" #name)                                                                              \
             "\t.long .Lname_of_" #name " - .\n"                                                                        \
             ".popsection\n"                                                                                            \
-            ".pushsection .rodata.str1.1,\"aMS\",@progbits,1\n"                                                       \
-            ".Lname_of_" #name ": .asciz \"" #name "\"\n"                                                             \
+            ".pushsection .rodata.str1.1,\"aMS\",@progbits,1\n"                                                        \
+            ".Lname_of_" #name ": .asciz \"" #name "\"\n"                                                              \
             ".popsection\n")
 /* A linker that leaves out what nobody asks for keeps what a file has in the list if it keeps the file's code. */
 #define KEEPS_LIST(label)                                                                                              \
-    __asm__(IN_LIST ".Llisted:\n.popsection\n"                                                                         \
+    TOP_ASM(IN_LIST ".Llisted:\n.popsection\n"                                                                         \
             ".pushsection .text\n\t.balign 4\n.globl " label "\n" label ":\n\t.long .Llisted - .\n.popsection\n");
 
 #if defined LISTS_STUBS || defined IS_PRELOAD
@@ -80,28 +69,17 @@ _Static_assert(offsetof(struct hook_page, program) == 56, "as the stubs have it"
 #endif
 
 #define STUB(name)                                                                                                     \
-    __asm__(BIND("__wrap_" #name));                                                                                    \
+    TOP_ASM(BIND("__wrap_" #name));                                                                                    \
     GUARD("__wrap_" #name, "__real_" #name, "checked_" #name, "__real_" #name)                                         \
     LIST(name)
 
 /* Of a lock: its function is called as it is if the shadow of the lock is clean, whosever function that is. That is one
-   word, of an object that begins a granule. It is read for addresses alone, short of the map's end. */
-_Static_assert(SHADOW_START == 0x7fff8000 && ADDRESS_END >> 47 == 1 && GRANULE == 8, "as the stubs have it");
+   word, of an object that begins a granule. */
+_Static_assert(STUBS_SHADOW_START == SHADOW_START && GRANULE == 8, "as the stubs have it");
+_Static_assert(MEMORY_END >> STUBS_ADDRESS_BITS == 1, "as the stubs have it");
 #define STUB_OF_LOCK(name, bytes)                                                                                      \
-    __asm__(BIND("__wrap_" #name));                                                                                    \
-    GUARD_AFTER("\tmovq %rdi, %r11\n"                                                                                  \
-                "\ttestb $7, %dil\n"                                                                                   \
-                "\tjne 1f\n"                                                                                           \
-                "\tshrq $3, %r11\n"                                                                                    \
-                "\tleaq 8(%r11), %r10\n"                                                                               \
-                "\tshrq $44, %r10\n"                                                                                   \
-                "\tjne 1f\n"                                                                                           \
-                "\tmovq 0x7fff8000(%r11), %r11\n"                                                                      \
-                "\tshlq $64 - " #bytes ", %r11\n"                                                                      \
-                "\tjne 1f\n"                                                                                           \
-                "\tjmp *__real_" #name "@GOTPCREL(%rip)\n"                                                             \
-                "1:\n",                                                                                                \
-                "__wrap_" #name, "__real_" #name, "checked_" #name, "__real_" #name)                                   \
+    TOP_ASM(BIND("__wrap_" #name));                                                                                    \
+    GUARD_AFTER(GO_IF_CLEAN(name, bytes), "__wrap_" #name, "__real_" #name, "checked_" #name, "__real_" #name)         \
     LIST(name)
 
 /* For a function whose effect depends on its caller, and that the program calls to end, to go on otherwise or to give
@@ -109,26 +87,14 @@ _Static_assert(SHADOW_START == 0x7fff8000 && ADDRESS_END >> 47 == 1 && GRANULE =
    recorder's start, as from .preinit_array, it is not. */
 #define GUARD_OWN_OF_CALLER(name) GUARD_OWN_BUT(name, "")
 #define GUARD_OWN_BUT(name, first)                                                                                     \
-    __asm__(".pushsection .text\n"                                                                                     \
+    TOP_ASM(".pushsection .text\n"                                                                                     \
             ".p2align 4\n" BIND("__wrap_" #name)                                                                       \
-                HIDE("__wrap_" #name) ".type __wrap_" #name ",@function\n__wrap_" #name ":\n.L__wrap_" #name ":\n"     \
-                                      "\t.cfi_startproc\n"                                                             \
-                                      "\tendbr64\n"                                                                    \
-                                      "\tcmpq $0, asancol_own_code+8(%rip)\n"                                          \
-                                      "\tje 1f\n"                                                                      \
-                                      "\tmovq __real_" #name "@GOTPCREL(%rip), %r11\n" first "\tmovq %r11, %r10\n"     \
-                                      "\tsubq asancol_own_code(%rip), %r10\n"                                          \
-                                      "\tcmpq asancol_own_code+8(%rip), %r10\n"                                        \
-                                      "\tjb 1f\n"                                                                      \
-                                      "\tmovabsq $" TEXT(HOOK_PAGE_START) ", %r10\n"                                   \
-                                                                          "\tsubq 56(%r10), %r11\n"                    \
-                                                                          "\tcmpq 64(%r10), %r11\n"                    \
-                                                                          "\tjae checked_" #name "\n"                  \
-                                                                          "1:\tjmp *__real_" #name "@GOTPCREL(%rip)\n" \
-                                                                          "\t.cfi_endproc\n"                           \
-                                                                          ".size __wrap_" #name ", .-__wrap_" #name    \
-                                                                          "\n"                                         \
-                                                                          ".popsection\n")
+            HIDE("__wrap_" #name) ".type __wrap_" #name ",@function\n__wrap_" #name ":\n.L__wrap_" #name ":\n"         \
+            "\t.cfi_startproc\n"                                                                                       \
+            LANDING GO_UNLESS_OWN(name, first)                                                                         \
+            "\t.cfi_endproc\n"                                                                                         \
+            ".size __wrap_" #name ", .-__wrap_" #name "\n"                                                             \
+            ".popsection\n")
 
 /* For one whose effect is the same whoever calls it, plain libraries too; and a plain program that has the recorder
    preloaded. */
@@ -146,13 +112,11 @@ _Static_assert(SHADOW_START == 0x7fff8000 && ADDRESS_END >> 47 == 1 && GRANULE =
 
 /* The runtimes of Clang's sanitizers have a function of the name for the program's calls, which is the library's. */
 #define IF_INTERCEPTED(name)                                                                                           \
-    ".weak __interceptor_" #name "\n"                                                                                  \
-    "\tcmpq __interceptor_" #name "@GOTPCREL(%rip), %r11\n"                                                            \
-    "\tje checked_" #name "\n"
+    ".weak __interceptor_" #name "\n" GO_IF_IT_IS("__interceptor_" #name, "checked_" #name)
 
 /* For a function whose check calls another one: both have to be the library's. */
 #define STUB_OF_TWO(name, other)                                                                                       \
-    __asm__(BIND("__wrap_" #name));                                                                                    \
+    TOP_ASM(BIND("__wrap_" #name));                                                                                    \
     GUARD("__wrap_" #name, "__real_" #name, "other_of_" #name, "__real_" #name)                                        \
     GUARD("other_of_" #name, "__real_" #other, "checked_" #name, "__real_" #name)                                      \
     LIST(name)

@@ -2,6 +2,9 @@
    what the call reads and writes. Here it has no effect: such a call is not looked at.
 
    One member of the library, that comes in only if it is asked for. */
+#include "base/platform.h"
+#include "base/processor_stubs.h"
+
 #ifdef IN_SHARED_OBJECT
 #define SHOWN(name) ".hidden " name "\n"
 #else
@@ -14,9 +17,9 @@
 /* The text is longer than each compiler of the language has to take. */
 #pragma GCC diagnostic ignored "-Woverlength-strings"
 
-__asm__(".pushsection .text\n"
+TOP_ASM(".pushsection .text\n"
 #include "calls/system_hooks.def"
         "\t.cfi_startproc\n"
-        "\tret\n"
+        RETURN
         "\t.cfi_endproc\n"
         ".popsection\n");

@@ -7,7 +7,6 @@
 #include <aio.h>
 #include <arpa/inet.h>
 #include <dirent.h>
-#include <emmintrin.h>
 #include <errno.h>
 #include <fcntl.h>
 #include <ftw.h>
@@ -120,18 +119,15 @@ HELPER static int lowered(int byte)
 /* Whether a block lies in one page, so that it can be read also past the end of a string. */
 HELPER static bool is_in_page(const char *at)
 {
-    return ((uintptr_t)at & (PAGE - 1)) <= PAGE - sizeof(__m128i);
+    return ((uintptr_t)at & (PAGE - 1)) <= PAGE - sizeof(bytes16);
 }
 
-enum { BLOCK = sizeof(__m128i) };
+enum { BLOCK = sizeof(bytes16) };
 
 /* Of two blocks a bit for each byte that differs or is an end. */
 HELPER __attribute__((no_sanitize("address"))) static inline unsigned stops_in_block(const char *one, const char *other)
 {
-    __m128i first = _mm_loadu_si128((const __m128i *)one), second = _mm_loadu_si128((const __m128i *)other);
-    __m128i is_end = _mm_cmpeq_epi8(first, _mm_setzero_si128());
-    __m128i goes_on = _mm_andnot_si128(is_end, _mm_cmpeq_epi8(first, second));
-    return (unsigned)_mm_movemask_epi8(goes_on) ^ ((1 << BLOCK) - 1);
+    return bytes16_same_text(bytes16_load(one), bytes16_load(other)) ^ ((1 << BLOCK) - 1);
 }
 
 /* How many of the first bytes are the same in both and not zero, at most this many. It ends also where a page does. */
@@ -183,7 +179,7 @@ HELPER static void wide_compares(const wchar_t *one, const wchar_t *other, size_
     while (read < most) {
         wchar_t first = one[read], second = other[read];
         read++;
-        if (first == 0 || fold(first) != fold(second))
+        if (first == 0 || fold((int)first) != fold((int)second))
             break;
     }
     READS_ARRAY(one, read, sizeof *one);
@@ -504,6 +500,7 @@ HELPER static struct request control_of(int command)
 HELPER static struct request traced_of(int request)
 {
     switch (request) {
+#ifdef PT_GETREGS /* newer processors have no calls for these alone */
     case PTRACE_GETREGS:
         return (struct request){0, 0, sizeof(struct user_regs_struct)};
     case PTRACE_SETREGS:
@@ -512,6 +509,7 @@ HELPER static struct request traced_of(int request)
         return (struct request){0, 0, sizeof(struct user_fpregs_struct)};
     case PTRACE_SETFPREGS:
         return (struct request){0, sizeof(struct user_fpregs_struct), 0};
+#endif
     case PTRACE_GETSIGINFO:
         return (struct request){0, 0, sizeof(siginfo_t)};
     case PTRACE_SETSIGINFO:

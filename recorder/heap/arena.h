@@ -16,16 +16,16 @@
 #include "stacks/stacks.h"
 
 enum { UNIT = 1 << 16, MIN_SLOT_SIZE = 2 * REDZONE, SLOTS = UNIT / MIN_SLOT_SIZE, ALIGNMENT = 16 };
-/* There are 2^42 bytes in units, but in a test of the allocator alone; */
+/* What a process has on x86-64 is 2^42 bytes in units, but in a test of the allocator alone; */
 #ifndef UNITS
-enum { UNITS = 1 << 26 };
+enum { UNITS = ARENA_UNITS };
 #endif
 /* the second half for blocks of more than BIG_BYTES, except in a recording in order. */
 enum { FIRST_BIG = UNITS / 2, BIG_BYTES = 1 << 19 };
 /* A region of these has one mapping of the file that says it is unused (shadow/unused.h). */
 enum { REGION_UNITS = 1 << 9, REGIONS = UNITS / REGION_UNITS };
 /* And there are this many bytes for signal handlers. */
-#define SPARE_BYTES ((uint64_t)1 << 34)
+#define SPARE_BYTES ARENA_SPARE_BYTES
 /* Free runs are listed by their number of units, the longer ones together. */
 enum { BINS = 64 };
 

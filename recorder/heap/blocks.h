@@ -217,9 +217,9 @@ void heap_own_free(void *pointer);
 void *heap_own_realloc(void *old, size_t size);
 /* Where a call of one of these names leads, if it comes here. */
 #ifdef IS_PRELOAD
-extern const char exported_malloc[] __asm__("asancol_exported_malloc") __attribute__((visibility("hidden")));
-extern const char exported_free[] __asm__("asancol_exported_free") __attribute__((visibility("hidden")));
-extern const char exported_realloc[] __asm__("asancol_exported_realloc") __attribute__((visibility("hidden")));
+extern const char exported_malloc[] NAMED("asancol_exported_malloc") __attribute__((visibility("hidden")));
+extern const char exported_free[] NAMED("asancol_exported_free") __attribute__((visibility("hidden")));
+extern const char exported_realloc[] NAMED("asancol_exported_realloc") __attribute__((visibility("hidden")));
 #define EXPORTED(name) ((uintptr_t)exported_##name)
 #else
 #define EXPORTED(name) ((uintptr_t)&heap_own_##name)

@@ -74,7 +74,7 @@ static bool wait_for(const struct shard *shard, int most)
     static const struct timespec a_while = {.tv_nsec = 50000};
     for (int looks = 0; atomic_load_explicit(&shard->is_busy, memory_order_acquire); looks += looks < most) {
         if (looks < LOOKS)
-            __builtin_ia32_pause();
+            processor_pause();
         else if (looks < TURNS)
             system_sched_yield();
         else if (looks < most || most == ANY_TIME)

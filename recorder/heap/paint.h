@@ -38,7 +38,7 @@ static inline void paint_granules(unsigned char *at, size_t count, unsigned char
     }
     for (; count >= sizeof shades; count -= sizeof shades, at += sizeof shades) {
         __builtin_memcpy(at, &shades, sizeof shades);
-        __asm__ volatile("" : : "r"(at) : "memory"); /* else compilers call memset here */
+        STAYS_AT(at); /* else compilers call memset here */
     }
     for (; count > 0; count--)
         *(volatile unsigned char *)at++ = shade;

@@ -34,7 +34,7 @@ static inline bool is_clean(uint64_t address, uint64_t size)
 {
     typedef uint64_t lanes __attribute__((vector_size(16), aligned(1), may_alias));
     enum { LOADS = 8, PIECE = LOADS * sizeof(lanes) * GRANULE };
-    if (address >= ADDRESS_END || size > ADDRESS_END - address)
+    if (address >= MEMORY_END || size > MEMORY_END - address)
         return false;
     for (; size > PIECE; address += PIECE, size -= PIECE) {
         const lanes *at = (const lanes *)(uintptr_t)shadow_of(address);

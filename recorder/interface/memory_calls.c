@@ -4,6 +4,9 @@
    For programs they are compiled twice, as callbacks.h says of the others. Those of the program's own objects bring the
    stubs in; the weak ones, which are always there, go to stubs if these are in the program for its libraries. */
 
+#include "base/platform.h"
+#include "base/processor_stubs.h"
+
 #if defined IN_SHARED_OBJECT
 #define BINDING ".globl", ".hidden"
 #define STUB_OF(name) "__wrap_" #name
@@ -16,28 +19,22 @@
 #endif
 
 #ifdef IS_STATIC
-#define GO_ON(name) "\tjmp *" #name "@GOTPCREL(%rip)\n"
+#define GO_ON(name) GO_BY_SLOT(#name)
 #elif defined IN_CHECKS
-#define GO_ON(name) "\tjmp *" STUB_OF(name) "@GOTPCREL(%rip)\n"
+#define GO_ON(name) GO_BY_SLOT(STUB_OF(name))
 #else
-#define GO_ON(name)                                                                                                    \
-    ".weak " STUB_OF(name) "\n"                                                                                        \
-    "\tmovq " STUB_OF(name) "@GOTPCREL(%rip), %r11\n"                                                                  \
-    "\ttestq %r11, %r11\n"                                                                                             \
-    "\tcmoveq " #name "@GOTPCREL(%rip), %r11\n"                                                                        \
-    "\tjmp *%r11\n"
+#define GO_ON(name) ".weak " STUB_OF(name) "\n" GO_TO_EITHER(STUB_OF(name), #name)
 #endif
 
 #define MEMORY_CALL_BOUND(binding, visibility, name)                                                                   \
-    __asm__(".pushsection .text\n"                                                                                     \
+    TOP_ASM(".pushsection .text\n"                                                                                     \
             ".p2align 4\n"                                                                                             \
             binding " __asan_" #name "\n"                                                                              \
             visibility " __asan_" #name "\n"                                                                           \
             ".type __asan_" #name ",@function\n"                                                                       \
             "__asan_" #name ":\n"                                                                                      \
             "\t.cfi_startproc\n"                                                                                       \
-            "\tendbr64\n"                                                                                              \
-            GO_ON(name)                                                                                                \
+            LANDING GO_ON(name)                                                                                        \
             "\t.cfi_endproc\n"                                                                                         \
             ".size __asan_" #name ", .-__asan_" #name "\n"                                                             \
             ".popsection\n");

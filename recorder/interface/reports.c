@@ -89,7 +89,7 @@ static const char *class_of_access(const struct told *told)
     uint64_t bad = shadow_first_bad(told->address, told->size);
     if (told->call != NULL && told->size > PTRDIFF_MAX)
         return "negative-size-param";
-    if (bad >= ADDRESS_END)
+    if (bad >= MEMORY_END)
         return "unknown-crash";
     unsigned char shade = *shadow_of(bad);
     return class_of_shade(shade != 0 && shade < GRANULE ? *shadow_of(bad + GRANULE) : shade);
@@ -137,7 +137,7 @@ static const char *class_of(const struct told *told)
         return class_of_finding(told);
     if (told->code != CODE_FREE)
         return class_of_access(told);
-    return told->address < ADDRESS_END && *shadow_of(told->address) == SHADE_FREED ? "double-free" : "bad-free";
+    return told->address < MEMORY_END && *shadow_of(told->address) == SHADE_FREED ? "double-free" : "bad-free";
 }
 
 /* The text, in the form of AddressSanitizer's. */

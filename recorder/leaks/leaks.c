@@ -11,6 +11,8 @@
 #include <stdint.h>
 
 #include "base/disturbance.h"
+#include "base/platform.h"
+#include "base/processor_stubs.h"
 #include "base/say.h"
 #include "base/self.h"
 #include "calls/library.h"
@@ -135,29 +137,14 @@ static bool look_from(uintptr_t frame)
 /* Stores the registers that belong to the caller, and goes on in look_from. What lies below is the recorder's own, and
    may lead to blocks that were freed of all else long ago. */
 bool look(void) OWN_NAME(look);
-__asm__(".pushsection .text\n"
+TOP_ASM(".pushsection .text\n"
         ".p2align 4\n"
         ".hidden asancol_look\n"
         ".globl asancol_look\n"
         ".type asancol_look,@function\n"
         "asancol_look:\n"
         ".cfi_startproc\n"
-        "\tpushq %rbp\n"
-        ".cfi_def_cfa_offset 16\n"
-        ".cfi_offset 6, -16\n"
-        "\tmovq %rsp, %rbp\n"
-        ".cfi_def_cfa_register 6\n"
-        "\tpushq %rbx\n"
-        "\tpushq %r12\n"
-        "\tpushq %r13\n"
-        "\tpushq %r14\n"
-        "\tpushq %r15\n"
-        "\tmovq %rsp, %rdi\n"
-        "\tpushq %rdi\n" /* the stack is at a multiple of 16 again */
-        "\tcall asancol_look_from\n"
-        "\tleave\n"
-        ".cfi_def_cfa 7, 8\n"
-        "\tret\n"
+        CALL_WITH_REGISTERS("asancol_look_from")
         ".cfi_endproc\n"
         ".size asancol_look, .-asancol_look\n"
         ".popsection\n");

@@ -59,7 +59,7 @@ static size_t local_size(const ElfW(Phdr) *parts, size_t count)
 
 #ifdef IS_STATIC
 
-extern const ElfW(Ehdr) header_of_program __asm__("__ehdr_start") __attribute__((visibility("hidden")));
+extern const ElfW(Ehdr) header_of_program NAMED("__ehdr_start") __attribute__((visibility("hidden")));
 
 /* There is one module. Of an object that it opens nothing is known. */
 static void mark_modules(void)
@@ -115,10 +115,6 @@ static void mark_modules(void)
 
 /* Threads. */
 
-/* What the C library keeps of a thread, if it does not say how much that is. */
-enum { USUAL_CONTROL_SIZE = 2304 };
-/* This many bytes below the stack pointer are a leaf function's. */
-enum { RED_ZONE = 128 };
 /* A stack that is not known reaches so far up. */
 enum { UNKNOWN_REACH = 8 << 20 };
 #define MOST_OF_STACK ((uintptr_t)1 << 30)
@@ -127,22 +123,21 @@ enum { UNKNOWN_REACH = 8 << 20 };
    memory of modules lies, which is in blocks. */
 static void mark_local(uintptr_t control)
 {
-    struct control {
-        uintptr_t self, vector; /* the second leads to pairs of words, after one with how many there are */
-    } now;
-    uintptr_t count;
+    uintptr_t now[2], vector, count; /* the vector has pairs of words, after one with how many there are */
     enum { PAIR = 2 * sizeof count, MOST_PAIRS = 1 << 16 };
     struct known_page page = {0}; /* no other thread runs that could take one away */
     if (control == 0)
         return;
-    mark_range(control - seen.static_size, control + seen.control_size);
+    mark_range(LOCAL_START(control, seen.static_size, seen.control_size),
+               LOCAL_END(control, seen.static_size, seen.control_size));
     if (!memory_is_there(&page, control, sizeof now))
         return;
-    memcpy(&now, (const void *)control, sizeof now);
-    if (!memory_is_there(&page, now.vector - PAIR, sizeof count))
+    memcpy(now, (const void *)control, sizeof now);
+    vector = now[LOCAL_VECTOR_WORD];
+    if (!memory_is_there(&page, vector - PAIR, sizeof count))
         return;
-    memcpy(&count, (const void *)(now.vector - PAIR), sizeof count);
-    mark_range(now.vector, now.vector + (count < MOST_PAIRS ? count : 0) * PAIR + PAIR);
+    memcpy(&count, (const void *)(vector - PAIR), sizeof count);
+    mark_range(vector, vector + (count < MOST_PAIRS ? count : 0) * PAIR + PAIR);
 }
 
 static bool is_on(const struct own_stack *own, uintptr_t stack)
@@ -177,28 +172,22 @@ static struct own_stack stack_of(uintptr_t control)
     return own;
 }
 
-/* The registers, also those of vectors: these lie where the system says. */
+/* The registers, also those of vectors. */
 static void mark_registers(const ucontext_t *context)
 {
-    enum { FORM = 0x46505853, FORM_AT = 464, SIZE_AT = 468 };
-    const greg_t *registers = context->uc_mcontext.gregs;
-    uintptr_t vectors = (uintptr_t)context->uc_mcontext.fpregs;
-    uint32_t form, size = sizeof(struct _libc_fpstate);
-    for (int i = 0; i < NGREG; i++)
-        mark_word((uintptr_t)registers[i]);
-    if (vectors == 0)
-        return;
-    memcpy(&form, (const char *)vectors + FORM_AT, sizeof form);
-    if (form == FORM)
-        memcpy(&size, (const char *)vectors + SIZE_AT, sizeof size);
-    mark_range(vectors, vectors + size);
+    const uintptr_t *registers = CONTEXT_WORDS(context);
+    uintptr_t vectors = CONTEXT_VECTORS(context);
+    for (int i = 0; i < CONTEXT_WORD_COUNT; i++)
+        mark_word(registers[i]);
+    if (vectors != 0)
+        mark_range(vectors, vectors + processor_vectors_size(vectors));
 }
 
 static void mark_thread(const struct stopped_thread *thread)
 {
     struct own_stack own = stack_of(thread->control);
     mark_registers(thread->context);
-    mark_stack(&own, (uintptr_t)thread->context->uc_mcontext.gregs[REG_RSP] - RED_ZONE, thread->control);
+    mark_stack(&own, CONTEXT_STACK(thread->context) - RED_ZONE, thread->control);
     mark_local(thread->control);
 }
 
@@ -222,8 +211,7 @@ static void mark_if_root(const struct block *block, void *unused)
 void roots_mark(uintptr_t frame)
 {
     seen.static_size = 0;
-    seen.control_size =
-        library._thread_db_sizeof_pthread != NULL ? *library._thread_db_sizeof_pthread : USUAL_CONTROL_SIZE;
+    seen.control_size = library_control_size();
     mark_modules();
     mark_stack(&own_stack, frame, world_own_control());
     mark_local(world_own_control());

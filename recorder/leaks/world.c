@@ -4,7 +4,6 @@
 #define _GNU_SOURCE
 #include "leaks/world.h"
 
-#include <asm/prctl.h>
 #include <errno.h>
 #include <linux/futex.h>
 #include <stdatomic.h>
@@ -39,12 +38,9 @@ static struct {
     void (*_Atomic before)(int, siginfo_t *, void *); /* the handler that there was */
 } world;
 
-/* It begins with its own address. */
 uintptr_t world_own_control(void)
 {
-    uintptr_t control;
-    __asm__("movq %%fs:0, %0" : "=r"(control));
-    return control;
+    return processor_thread_pointer();
 }
 
 /* What the signal brings: the round, and the number of the slot. */
@@ -74,7 +70,7 @@ static void on_stop(int number, siginfo_t *info, void *context)
         return;
     struct slot *slot = &atomic_load(&world.slots)[(uint32_t)asked];
     uintptr_t control = 0;
-    system_call3(SYS_arch_prctl, ARCH_GET_FS, (long)&control, 0);
+    THREAD_POINTER_BY_SYSTEM(&control);
     atomic_store(&slot->control, control);
     atomic_store(&slot->context, context);
     wait_in(round);
@@ -101,11 +97,22 @@ static bool was_asked(pid_t thread)
     return false;
 }
 
+/* Whether a thread is an emulator's own, which takes no signal of those that it passes on. */
+static bool is_of_emulator(pid_t thread)
+{
+#if MAY_BE_EMULATED
+    return processor_is_emulated((uintptr_t)__builtin_frame_address(0)) && other_threads_is_deaf(thread, SIGHUP);
+#else
+    (void)thread;
+    return false;
+#endif
+}
+
 /* Asks a thread to stop that was not asked yet. There may be no room for another pending signal: then it is asked
    later. */
 static void visit_running(pid_t thread, void *found)
 {
-    if (was_asked(thread))
+    if (was_asked(thread) || is_of_emulator(thread))
         return;
     *(bool *)found = true;
     if (world.count == MAX_SLOTS) {

@@ -12,8 +12,8 @@
 #include "shadow/mapping.h"
 #include "stream/maps.h"
 
-extern struct exported exported[] __asm__("__start_asancol_exported") __attribute__((visibility("hidden")));
-extern struct exported exported_end[] __asm__("__stop_asancol_exported") __attribute__((visibility("hidden")));
+extern struct exported exported[] NAMED("__start_asancol_exported") __attribute__((visibility("hidden")));
+extern struct exported exported_end[] NAMED("__stop_asancol_exported") __attribute__((visibility("hidden")));
 
 /* Where its file begins in memory, or 0. */
 static uintptr_t start_of(const struct dl_phdr_info *module)

@@ -97,7 +97,6 @@ static bool find_begin(int64_t *begun)
 
 bool is_of_earlier_run(const char *path)
 {
-    enum { HERE = -100 }; /* AT_FDCWD */
     struct statx seen;
     struct timespec behind = {0, TICK_NS}; /* how far the clock of files may be */
     int64_t begun;

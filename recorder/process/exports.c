@@ -1,23 +1,22 @@
 /* The preloaded recorder has names of the C library: these, which lead where aside.c says. A call comes here with
    whatever its caller has given it, and its caller stays the caller. */
+#include "base/platform.h"
+#include "base/processor_stubs.h"
 #include "process/aside.h"
 
 /* The recorder's function of the name is called `asancol_instead_NAME` (Makefile). At its first call a way leads to
-   find_way, with the way in r11. A module that was opened with RTLD_DEEPBIND finds the C library's function first: so
+   find_way, with the way. A module that was opened with RTLD_DEEPBIND finds the C library's function first: so
    that is in the list of stubs too (LISTED in calls/stubs.h), and the module's slot is led here. */
 #define EXPORT(name)                                                                                                   \
-    __asm__(".pushsection .text\n"                                                                                     \
+    TOP_ASM(".pushsection .text\n"                                                                                     \
             ".p2align 4\n"                                                                                             \
             ".globl " #name "\n.type " #name ",@function\n" #name ":\n"                                                \
             ".globl asancol_exported_" #name "\n.hidden asancol_exported_" #name "\n"                                  \
             "asancol_exported_" #name ":\n"                                                                            \
             "\t.cfi_startproc\n"                                                                                       \
-            "\tendbr64\n"                                                                                              \
-            "\tjmp *.Lway_" #name "(%rip)\n"                                                                           \
+            LANDING GO_BY_POINTER(".Lway_" #name)                                                                      \
             ".Lfirst_" #name ":\n"                                                                                     \
-            "\tendbr64\n"                                                                                              \
-            "\tleaq .Lway_" #name "(%rip), %r11\n"                                                                     \
-            "\tjmp find_way\n"                                                                                         \
+            LANDING GO_ASKING("find_way", ".Lway_" #name)                                                              \
             "\t.cfi_endproc\n"                                                                                         \
             ".size " #name ", .-" #name "\n"                                                                           \
             ".popsection\n"                                                                                            \
@@ -40,25 +39,11 @@
 EXPORT(dlsym)
 EXPORT(dlvsym)
 
-/* All arguments are in these registers: no function here has others. */
-__asm__(".pushsection .text\n"
+TOP_ASM(".pushsection .text\n"
         ".p2align 4\n"
         ".type find_way,@function\nfind_way:\n"
         "\t.cfi_startproc\n"
-        "\tpushq %rdi\n\t.cfi_adjust_cfa_offset 8\n"
-        "\tpushq %rsi\n\t.cfi_adjust_cfa_offset 8\n"
-        "\tpushq %rdx\n\t.cfi_adjust_cfa_offset 8\n"
-        "\tpushq %rcx\n\t.cfi_adjust_cfa_offset 8\n"
-        "\tpushq %r8\n\t.cfi_adjust_cfa_offset 8\n"
-        "\tmovq %r11, %rdi\n"
-        "\tcall asancol_way_of\n"
-        "\tmovq %rax, %r11\n"
-        "\tpopq %r8\n\t.cfi_adjust_cfa_offset -8\n"
-        "\tpopq %rcx\n\t.cfi_adjust_cfa_offset -8\n"
-        "\tpopq %rdx\n\t.cfi_adjust_cfa_offset -8\n"
-        "\tpopq %rsi\n\t.cfi_adjust_cfa_offset -8\n"
-        "\tpopq %rdi\n\t.cfi_adjust_cfa_offset -8\n"
-        "\tjmp *%r11\n"
+        ASK_AND_GO("asancol_way_of")
         "\t.cfi_endproc\n"
         ".size find_way, .-find_way\n"
         ".popsection\n");

@@ -17,6 +17,7 @@
 #include "process/own_run.h"
 #include "process/threads.h"
 #include "process/unseen.h"
+#include "shadow/mapping.h"
 #include "stacks/fake_stack.h"
 #include "stacks/thread_notes.h"
 #include "stacks/walks.h"
@@ -408,6 +409,7 @@ static void after_fork_in_child(void)
         say_unrecorded(why_unrecorded());
         recorded = false;
     }
+    shadow_forked();
     if (!recorded || !begin(HELD_BY_CHILD)) {
         be_idle();
     }

@@ -27,7 +27,7 @@ static size_t count_resolvers(struct part part, size_t passed)
     const Elf64_Rela *row = (const void *)(part.start < base ? part.start + base : part.start);
     size_t count = 0;
     for (size_t i = passed; part.start != 0 && i < part.size / sizeof *row; i++)
-        count += ELF64_R_TYPE(row[i].r_info) == R_X86_64_IRELATIVE;
+        count += ELF64_R_TYPE(row[i].r_info) == RELOCATES_BY_RESOLVER;
     return count;
 }
 

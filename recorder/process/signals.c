@@ -68,18 +68,17 @@ void signals_note_abort(uintptr_t caller)
 
 /* An access so near the stack pointer finds no memory only if the stack is used up: as AddressSanitizer has it. */
 enum { BELOW_STACK_POINTER = 512, ABOVE_STACK_POINTER = 0xffff };
-/* The number of a page fault, and what the processor says of one. */
-enum { PAGE_FAULT = 14, FAULT_BY_STORE = 2, FAULT_BY_JUMP = 16 };
 
-static uint32_t how_accessed(int number, uint64_t address, const greg_t *registers)
+static uint32_t how_accessed(int number, uint64_t address, const ucontext_t *context)
 {
-    uint64_t stack = (uint64_t)registers[REG_RSP], error = (uint64_t)registers[REG_ERR];
-    if (registers[REG_TRAPNO] != PAGE_FAULT)
+    uint64_t stack = CONTEXT_STACK(context);
+    enum processor_access access = CONTEXT_ACCESS(context);
+    if (access == ACCESS_IS_UNKNOWN)
         return SIDE_HAS_ADDRESS;
-    if (error & FAULT_BY_JUMP)
+    if (access == ACCESS_BY_JUMP)
         return SIDE_HAS_ADDRESS | SIDE_BY_JUMP;
     bool is_near = address + BELOW_STACK_POINTER >= stack && address < stack + ABOVE_STACK_POINTER;
-    return SIDE_HAS_ADDRESS | (error & FAULT_BY_STORE ? SIDE_BY_STORE : SIDE_BY_LOAD)
+    return SIDE_HAS_ADDRESS | (access == ACCESS_BY_STORE ? SIDE_BY_STORE : SIDE_BY_LOAD)
            | (number == SIGSEGV && is_near ? SIDE_STACK_USED_UP : 0);
 }
 
@@ -111,13 +110,15 @@ struct met {
 
 static struct met met_by(int number, const siginfo_t *info, const ucontext_t *context)
 {
-    const greg_t *registers = context->uc_mcontext.gregs;
     bool has_address = (number == SIGSEGV || number == SIGBUS) && info->si_code > 0 && info->si_code != SI_KERNEL;
     struct met met = {.address = has_address ? (uintptr_t)info->si_addr : 0};
-    met.how = has_address ? how_accessed(number, met.address, registers) : 0;
-    met.registers.instruction = (uintptr_t)registers[REG_RIP];
-    met.registers.stack = (uintptr_t)registers[REG_RSP];
-    met.registers.frame = (uintptr_t)registers[REG_RBP];
+    met.how = has_address ? how_accessed(number, met.address, context) : 0;
+    met.registers.instruction = CONTEXT_INSTRUCTION(context);
+    met.registers.stack = CONTEXT_STACK(context);
+    met.registers.frame = CONTEXT_FRAME(context);
+#if HAS_LINK_REGISTER
+    met.registers.link = CONTEXT_LINK(context);
+#endif
     return met;
 }
 
@@ -125,13 +126,18 @@ static struct met met_by(int number, const siginfo_t *info, const ucontext_t *co
 static void note_last(int number, const struct met *met)
 {
     struct registers now = met->registers;
-    /* A call to where no code is: what lies on top of the stack leads to it. */
+    /* A call to where no code is: what lies on top of the stack leads to it, or what is in a register for that. */
+#if HAS_LINK_REGISTER
+    if ((met->how & SIDE_HAS_ADDRESS) && met->address == now.instruction)
+        now.instruction = CODE_ADDRESS(now.link) - 1;
+#else
     struct known_page page = {0};
     if ((met->how & SIDE_HAS_ADDRESS) && met->address == now.instruction
         && memory_is_there(&page, now.stack, sizeof now.stack)) {
         now.instruction = *(const uintptr_t *)now.stack - 1;
         now.stack += sizeof(uintptr_t);
     }
+#endif
     call_site last = call_site_at(&now);
     fault_note_last(number == SIGABRT && aborting != 0 ? aborting : last, met->address, met->how);
 }
@@ -238,25 +244,14 @@ __attribute__((used)) static uintptr_t handler_to_come(int number, siginfo_t *in
     return 0;
 }
 
-__asm__(".pushsection .text\n"
+TOP_ASM(".pushsection .text\n"
         ".p2align 4\n"
         ".hidden asancol_before_handler\n"
         ".globl asancol_before_handler\n"
         ".type asancol_before_handler,@function\n"
         "asancol_before_handler:\n"
         "\t.cfi_startproc\n"
-        "\tendbr64\n"
-        "\tpushq %rdi\n\t.cfi_adjust_cfa_offset 8\n"
-        "\tpushq %rsi\n\t.cfi_adjust_cfa_offset 8\n"
-        "\tpushq %rdx\n\t.cfi_adjust_cfa_offset 8\n"
-        "\tcall handler_to_come\n"
-        "\tpopq %rdx\n\t.cfi_adjust_cfa_offset -8\n"
-        "\tpopq %rsi\n\t.cfi_adjust_cfa_offset -8\n"
-        "\tpopq %rdi\n\t.cfi_adjust_cfa_offset -8\n"
-        "\ttestq %rax, %rax\n"
-        "\tjz 1f\n"
-        "\tjmp *%rax\n"
-        "1:\tret\n"
+        LANDING GO_TO_RESULT("handler_to_come")
         "\t.cfi_endproc\n"
         ".size asancol_before_handler, .-asancol_before_handler\n"
         ".popsection\n");
@@ -309,7 +304,7 @@ void signals_handle(void)
 
 /* The C library's, since the program calls it. */
 #ifdef IS_STATIC
-extern int real_sigaction(int, const struct sigaction *, struct sigaction *) __asm__("__sigaction");
+extern int real_sigaction(int, const struct sigaction *, struct sigaction *) NAMED("__sigaction");
 #else
 REAL(int, sigaction, (int, const struct sigaction *, struct sigaction *));
 #endif

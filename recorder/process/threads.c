@@ -359,14 +359,6 @@ static void end_thread(void *unused)
     heap_thread_ends();
 }
 
-/* What the C library keeps of a thread lies at the upper end of its stack. */
-static uintptr_t thread_block(void)
-{
-    uintptr_t block;
-    __asm__("movq %%fs:0x10, %0" : "=r"(block));
-    return block;
-}
-
 /* In a thread that begins in this frame. Answers what it is to do. */
 static struct start begin_thread(struct start *start, void *frame)
 {
@@ -377,7 +369,9 @@ static struct start begin_thread(struct start *start, void *frame)
     own_stack.low = own_stack.top - size + STACK_MARGIN;
     if (is_in_arena(own_stack.low) && heap_end_around(own_stack.low) < own_stack.top)
         own_stack.top = heap_end_around(own_stack.low) / GRANULE * GRANULE;
-    own_stack.readable = thread_block() > own_stack.top ? thread_block() : own_stack.top;
+    /* What the C library keeps of a thread lies at the upper end of its stack. */
+    uintptr_t thread = PROCESSOR_THREAD(library_control_size());
+    own_stack.readable = thread > own_stack.top ? thread : own_stack.top;
     atomic_store(&start->is_taken, false);
     shadow_clear(own_stack.low, own_stack.top - own_stack.low);
     library.pthread_setspecific(at_end, start);
@@ -517,14 +511,20 @@ uintptr_t thread_function_behind(const char *name)
 
 /* A jump. If a library makes it, no call of the compilers' comes first; and only here it is known where it goes. */
 
-/* The stack pointer of a jmp_buf, which the C library keeps turned and mixed with a secret. */
+/* The stack pointer of a jmp_buf. */
 static OF_PROGRAM uintptr_t target_of(const void *to)
 {
-    enum { OF_STACK_POINTER = 6 * sizeof(uintptr_t), TURN = 17 };
-    uintptr_t mixed, secret;
-    memcpy(&mixed, (const char *)to + OF_STACK_POINTER, sizeof mixed);
-    __asm__("movq %%fs:0x30, %0" : "=r"(secret));
-    return (mixed >> TURN | mixed << (64 - TURN)) ^ secret;
+    uintptr_t mixed;
+    memcpy(&mixed, (const char *)to + JUMP_STACK_POINTER, sizeof mixed);
+#ifdef JUMP_SECRET
+    static const uintptr_t *_Atomic secret;
+    const uintptr_t *found = atomic_load(&secret);
+    if (found == NULL)
+        atomic_store(&secret, found = library_next(JUMP_SECRET));
+    return processor_jump_target(mixed, found);
+#else
+    return processor_jump_target(mixed);
+#endif
 }
 
 static void frames_left_by_jump(uintptr_t frame, uintptr_t target)

@@ -43,25 +43,109 @@ static _Noreturn void fail(const char *why)
 
 static const char taken[] = "something else has its addresses";
 
+#if MAY_BE_EMULATED
+
+/* As memory.c asks. */
+static bool is_there(uint64_t page)
+{
+    return system_sigprocmask(-1, (const uint64_t *)page, NULL) == -EINVAL;
+}
+
+#endif
+
 /* Why it can't be mapped; null: it is, by this call or another object's. */
-static const char *map_at(uint64_t address, bool *is_new)
+static const char *map_part(uint64_t address, uint64_t bytes, bool *is_new)
 {
     int flags = MAP_PRIVATE | MAP_ANONYMOUS | MAP_NORESERVE | MAP_FIXED_NOREPLACE;
     void *at = (void *)address;
-    long start = system_mmap(at, SHADOW_BYTES, PROT_READ | PROT_WRITE, flags, -1, 0);
+    long start = system_mmap(at, bytes, PROT_READ | PROT_WRITE, flags, -1, 0);
     if (start < 0 && start != -EEXIST)
         return start == -ENOMEM ? "address space is limited (ulimit -v or -d, or vm.overcommit_memory=2)"
                                 : error_text((int)-start);
     /* A system that does not know MAP_FIXED_NOREPLACE takes the address for a hint. */
+#if MAY_BE_EMULATED
+    if (start > 0 && start != (long)at && is_there(address) && is_there(address + bytes - PAGE)) {
+        system_munmap((void *)start, bytes);
+        start = -EEXIST;
+    }
+#endif
     if (start > 0 && start != (long)at)
         return taken;
     /* Where another object of the process came first, the whole range is mapped. If anything else has a part of it, the
        rest is a hole, of which the system says ENOMEM here. */
     *is_new = start > 0;
-    if (!*is_new && system_madvise(at, SHADOW_BYTES, MADV_DONTDUMP) == -ENOMEM)
+    if (!*is_new && system_madvise(at, bytes, MADV_DONTDUMP) == -ENOMEM)
         return taken;
     return NULL;
 }
+
+#if MAY_BE_EMULATED
+
+/* Which parts of memory have a place in a map. */
+static const struct code_range all_parts[] = {{0, MEMORY_END}}, emulated_parts[] = {EMULATED_PARTS};
+
+struct parts {
+    const struct code_range *each;
+    size_t count;
+};
+
+static struct parts parts_of_memory(void)
+{
+    if (processor_is_emulated((uintptr_t)__builtin_frame_address(0)))
+        return (struct parts){emulated_parts, sizeof emulated_parts / sizeof *emulated_parts};
+    return (struct parts){all_parts, 1};
+}
+
+#ifdef IN_SHARED_OBJECT
+
+static void map_at_once(uint64_t address, int flags)
+{
+    struct parts parts = parts_of_memory();
+    for (size_t i = 0; i < parts.count; i++)
+        system_mmap((void *)(address + parts.each[i].start / GRANULE), parts.each[i].size / GRANULE,
+                    PROT_READ | PROT_WRITE, flags, -1, 0);
+}
+
+#endif
+
+static const char *map_at(uint64_t address, bool *is_new)
+{
+    const char *why = NULL;
+    struct parts parts = parts_of_memory();
+    for (size_t i = 0; i < parts.count && why == NULL; i++)
+        why = map_part(address + parts.each[i].start / GRANULE, parts.each[i].size / GRANULE, is_new);
+    return why;
+}
+
+static void advise_map(uint64_t address, int advice)
+{
+    struct parts parts = parts_of_memory();
+    for (size_t i = 0; i < parts.count; i++)
+        system_madvise((void *)(address + parts.each[i].start / GRANULE), parts.each[i].size / GRANULE, advice);
+}
+
+#else
+
+#ifdef IN_SHARED_OBJECT
+
+static void map_at_once(uint64_t address, int flags)
+{
+    system_mmap((void *)address, SHADOW_BYTES, PROT_READ | PROT_WRITE, flags, -1, 0);
+}
+
+#endif
+
+static const char *map_at(uint64_t address, bool *is_new)
+{
+    return map_part(address, SHADOW_BYTES, is_new);
+}
+
+static void advise_map(uint64_t address, int advice)
+{
+    system_madvise((void *)address, SHADOW_BYTES, advice);
+}
+
+#endif
 
 /* What holds for both maps. If both are new nothing lies between them yet, and the system passes over that. */
 static void advise(bool are_new, int advice)
@@ -70,8 +154,8 @@ static void advise(bool are_new, int advice)
         system_madvise((void *)SHADOW_START, STATED_START + SHADOW_BYTES - SHADOW_START, advice);
         return;
     }
-    system_madvise((void *)SHADOW_START, SHADOW_BYTES, advice);
-    system_madvise((void *)STATED_START, SHADOW_BYTES, advice);
+    advise_map(SHADOW_START, advice);
+    advise_map(STATED_START, advice);
 }
 
 static const char *map_both(void)
@@ -84,7 +168,7 @@ static const char *map_both(void)
         return why;
     advise(is_new && is_stated_new, MADV_DONTDUMP);
     advise(is_new && is_stated_new, MADV_NOHUGEPAGE);
-    system_madvise((void *)STATED_START, SHADOW_BYTES, MADV_WIPEONFORK); /* a child's stream states nothing yet */
+    advise_map(STATED_START, MADV_WIPEONFORK); /* a child's stream states nothing yet */
     return NULL;
 }
 
@@ -97,8 +181,22 @@ static void guard(uint64_t address)
 
 #ifndef IN_SHARED_OBJECT
 
+#if MAY_BE_EMULATED
+
+void shadow_forked(void)
+{
+    if (processor_is_emulated((uintptr_t)__builtin_frame_address(0)))
+        advise_map(STATED_START, MADV_DONTNEED); /* no emulator wipes it */
+}
+
+#endif
+
 bool is_in_guard(uint64_t address)
 {
+#if MAY_BE_EMULATED
+    if (address - SHADOW_START < SHADOW_BYTES)
+        return true;
+#endif
     return address - (uintptr_t)shadow_of(SHADOW_START) < SHADOW_BYTES / GRANULE
            || address - (uintptr_t)shadow_of(STATED_START) < SHADOW_BYTES / GRANULE;
 }
@@ -112,6 +210,12 @@ static const char *map_hook_page(void)
 {
     void *at = (void *)HOOK_PAGE_START;
     long start = system_mmap(at, PAGE, PROT_READ | PROT_WRITE, HOOK_PAGE_FLAGS, -1, 0);
+#if MAY_BE_EMULATED
+    if (start > 0 && start != (long)at && is_there(HOOK_PAGE_START)) {
+        system_munmap((void *)start, PAGE);
+        start = -EEXIST;
+    }
+#endif
 #ifdef IN_SHARED_OBJECT
     if (start == -EEXIST)
         return NULL;
@@ -194,7 +298,7 @@ static void do_nothing(void)
 __attribute__((used)) static void (*map_at_relocation(void))(void)
 {
     int flags = MAP_PRIVATE | MAP_ANONYMOUS | MAP_NORESERVE | MAP_FIXED_NOREPLACE;
-    system_mmap((void *)SHADOW_START, SHADOW_BYTES, PROT_READ | PROT_WRITE, flags, -1, 0);
+    map_at_once(SHADOW_START, flags);
     system_mmap((void *)HOOK_PAGE_START, PAGE, PROT_READ, HOOK_PAGE_FLAGS, -1, 0);
     return do_nothing;
 }
@@ -204,13 +308,28 @@ __attribute__((used)) static void (*const relocated)(void) = at_relocation;
 
 #endif
 
+/* Why the process is none that this is made for; or null. */
+static const char *misfit(void)
+{
+#ifdef MAY_HAVE_LARGER_PAGES
+    if (system_madvise((const void *)PAGE, 0, MADV_NORMAL) == -EINVAL)
+        return "the system has pages of more than 4 KiB";
+    if ((uintptr_t)__builtin_frame_address(0) >= MEMORY_END)
+        return "its addresses have more than 39 bits";
+#endif
+    return NULL;
+}
+
 static const char *map_all(void)
 {
+    const char *why = misfit();
+    if (why != NULL)
+        return why;
     find_own_code();
 #ifndef IN_SHARED_OBJECT
     library_begin();
 #endif
-    const char *why = map_both();
+    why = map_both();
     if (why == NULL)
         why = map_hook_page();
     if (why != NULL)

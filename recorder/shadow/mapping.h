@@ -10,6 +10,14 @@
 void shadow_map(void) OWN_NAME(shadow_map);
 /* The same for a preloaded recorder. False: there is no room, and the process goes on without it. */
 bool shadow_try_to_map(void);
+/* In a forked child, before its stream, which states nothing yet. */
+#if MAY_BE_EMULATED
+void shadow_forked(void);
+#else
+static inline void shadow_forked(void)
+{
+}
+#endif
 /* The object's own code, as the program's in `hook_page`. */
 extern struct code_range own_code OWN_NAME(own_code);
 /* Whether this is in the shadow of the maps themselves, which can't be read: nothing leads there but a wild pointer of

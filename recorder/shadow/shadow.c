@@ -39,7 +39,7 @@ bool shadow_is_clean_long(uint64_t address, uint64_t size)
 {
     if (size == 0)
         return true;
-    if (address >= ADDRESS_END || size > ADDRESS_END - address)
+    if (address >= MEMORY_END || size > MEMORY_END - address)
         return false;
     const unsigned char *at = (const unsigned char *)shadow_of(address);
     const unsigned char *last = (const unsigned char *)shadow_of(address + size - 1);
@@ -96,10 +96,10 @@ static void fill(uint64_t address, uint64_t size, unsigned char shade)
 /* Cuts a region at the end of addresses. Returns whether anything is left of it. */
 static bool clip(uint64_t address, uint64_t *size)
 {
-    if (address >= ADDRESS_END)
+    if (address >= MEMORY_END)
         return false;
-    if (*size > ADDRESS_END - address)
-        *size = ADDRESS_END - address;
+    if (*size > MEMORY_END - address)
+        *size = MEMORY_END - address;
     return *size != 0;
 }
 

@@ -22,21 +22,10 @@
 #include "calls/hook_page.h"
 #include "common/format.h"
 
-/* Where the maps lie: free in all layouts of a process on x86-64. Programs lie from 0x5555.. on, or below 2^32;
-   libraries and stacks below 2^47; with an unlimited stack libraries lie below 0x1555.., and in the old layout
-   (`setarch -L`) from 0x2aaa.. on.
-
-   The shadow begins at AddressSanitizer's own place, which fits into an instruction, and ends a little above 2^44.
-   asancol-cc gives the compilers this number. */
-#ifndef SHADOW_START /* as a test of the allocator alone has it */
-#define SHADOW_START ((uint64_t)0x7fff8000)
-#endif
-#define SHADOW_BYTES (ADDRESS_END / GRANULE)
-/* The allocator's memory is from 2^45 up to 5 * 2^43 (arena.h), */
-#define ARENA_SHIFT 43
-#define ARENA_NUMBER 4
-/* and `stated` is from 2^46 up to 5 * 2^44. */
-#define STATED_START ((uint64_t)1 << 46)
+/* Where the maps lie is a matter of the processor (processor.h): in the place of AddressSanitizer's, the allocator's
+   memory after it, and then `stated`. */
+_Static_assert(MEMORY_END <= ADDRESS_END, "a trace can spell each address");
+#define SHADOW_BYTES (MEMORY_END / GRANULE)
 
 /* After them comes the hook page. */
 _Static_assert((uint64_t)HOOK_PAGE_START == STATED_START + SHADOW_BYTES, "it follows the maps");
@@ -132,7 +121,7 @@ bool shadow_is_clean_long(uint64_t address, uint64_t size) OWN_NAME(shadow_is_cl
 static inline bool shadow_is_clean_short(uint64_t address, uint64_t size)
 {
     uint64_t word, within = address % GRANULE, last = within + size - 1;
-    if (UNLIKELY(size - 1 >= sizeof word * GRANULE - within || address >= ADDRESS_END - sizeof word * GRANULE))
+    if (UNLIKELY(size - 1 >= sizeof word * GRANULE - within || address >= MEMORY_END - sizeof word * GRANULE))
         return false;
     __builtin_memcpy(&word, (const unsigned char *)shadow_of(address), sizeof word);
     word <<= ~last & (sizeof word - 1) * GRANULE;

@@ -11,7 +11,7 @@
 #include "shadow/mapping.h"
 
 /* The program's. Some have none. */
-extern int program_main(void) __asm__("main") __attribute__((weak));
+extern int program_main(void) NAMED("main") __attribute__((weak));
 
 /* The table of a module that leads to the description of each function; 0: it has none. From version 2.35 on the C
    library says without a lock which module an address is in. */
@@ -203,7 +203,7 @@ static bool read_shared(uintptr_t start, struct shared *shared)
 
 /* Running a program: a row says where things are from a location on, and the program makes one row after the other. */
 
-enum { FRAME_POINTER = 6, STACK_POINTER = 7, RETURN_ADDRESS = 16, NO_REGISTER = 255, LINKED = 254 };
+enum { NO_REGISTER = 255, LINKED = 254 };
 enum { MAX_REMEMBERED = 4 };
 
 enum saved_kind { KEPT, SAVED, UNDEFINED, OTHER };
@@ -282,11 +282,10 @@ static void set_by_expression(struct machine *machine)
     set(machine, number, is_linked ? SAVED : OTHER, 0);
 }
 
-/* Of the stubs through which a module calls another one. A stub has 16 bytes, and from the eleventh on one word more
-   is on the stack: rsp + 8 + ((rip & 15) >= 11) * 8. */
+/* Of the stubs through which a module calls another one. */
 static bool is_of_stubs(struct reader reader)
 {
-    static const unsigned char expression[] = {0x77, 8, 0x80, 0, 0x3f, 0x1a, 0x3b, 0x2a, 0x33, 0x24, 0x22};
+    static const unsigned char expression[] = STUB_EXPRESSION;
     if (take_unsigned(&reader) != sizeof expression)
         return false;
     for (size_t i = 0; i < sizeof expression; i++)
@@ -297,8 +296,7 @@ static bool is_of_stubs(struct reader reader)
 
 static void set_end_by_expression(struct machine *machine)
 {
-    enum { STUB = 16, WITH_NUMBER = 11 };
-    bool is_stub = is_of_stubs(machine->reader), has_number = machine->instruction % STUB >= WITH_NUMBER;
+    bool is_stub = is_of_stubs(machine->reader), has_number = machine->instruction % STUB_BYTES >= STUB_HAS_NUMBER;
     struct expression expression = take_expression(machine);
     bool is_linked = expression.base == FRAME_POINTER && expression.is_load;
     machine->row.base = is_stub ? STACK_POINTER : is_linked ? LINKED : NO_REGISTER;
@@ -329,6 +327,13 @@ enum {
     EXPRESSION, OFFSET_SIGNED, DEFINE_END_SIGNED, DEFINE_END_OFFSET_SIGNED, VALUE_OFFSET, VALUE_OFFSET_SIGNED,
     VALUE_EXPRESSION, ARGUMENTS_SIZE = 0x2e, OFFSET_NEGATIVE = 0x2f,
 };
+
+/* What says that an address is signed from here on changes no place. */
+#if HAS_LINK_REGISTER
+#define IS_SIGNATURE(code) ((code) == SIGNS_ADDRESS)
+#else
+#define IS_SIGNATURE(code) false
+#endif
 
 /* False: it is none of these. */
 static bool run_end(struct machine *machine, unsigned char code)
@@ -406,7 +411,7 @@ static void run_one(struct machine *machine, unsigned char code)
     else if (code == VALUE_EXPRESSION) {
         set(machine, take_unsigned(reader), OTHER, 0);
         take_expression(machine);
-    } else if (code != NOP && !run_location(machine, code) && !run_end(machine, code)) {
+    } else if (code != NOP && !IS_SIGNATURE(code) && !run_location(machine, code) && !run_end(machine, code)) {
         run_register(machine, code);
     }
 }
@@ -436,10 +441,36 @@ static unsigned char frame_of(const struct saved *frame)
                                                                                       : CFI_FRAME_LOST;
 }
 
+/* Whether the rule can say where the address after the call is. */
+static bool put_address(const struct row *row, struct cfi_rule *rule)
+{
+#if HAS_LINK_REGISTER
+    int64_t words = -row->address.offset / (int64_t)sizeof(uintptr_t);
+    if (row->address.kind == SAVED && words > 0 && words <= UINT8_MAX)
+        rule->address = (unsigned char)words;
+    return row->address.kind == KEPT || rule->address != 0;
+#else
+    (void)rule;
+    return row->address.kind == SAVED && row->address.offset == -(int64_t)sizeof(uintptr_t);
+#endif
+}
+
+#if HAS_LINK_REGISTER
+
+/* Whether the caller's frame pointer and the address after the call lie side by side, wherever in the frame: then the
+   frame pointer leads to them, from the second instruction on. */
+static bool is_pair(const struct row *row)
+{
+    return row->frame.kind == SAVED && row->address.kind == SAVED && row->frame.offset != 0
+           && row->address.offset == row->frame.offset + (int64_t)sizeof(uintptr_t);
+}
+
+#endif
+
 static struct cfi_rule rule_of(const struct row *row, const struct machine *machine)
 {
     struct cfi_rule rule = {.frame = frame_of(&row->frame), .flags = machine->is_own ? CFI_OWN : 0};
-    bool is_usual = row->address.kind == SAVED && row->address.offset == -(int64_t)sizeof(uintptr_t);
+    bool is_usual = put_address(row, &rule);
     if (machine->shared->is_signal)
         rule.kind = CFI_SIGNAL;
     else if (row->address.kind == UNDEFINED)
@@ -450,6 +481,12 @@ static struct cfi_rule rule_of(const struct row *row, const struct machine *mach
                     : row->base == LINKED        ? CFI_SAVED
                                                  : CFI_UNKNOWN;
     rule.offset = (int32_t)row->offset;
+#if HAS_LINK_REGISTER
+    if (rule.kind != CFI_SIGNAL && is_pair(row)) {
+        rule.kind = CFI_POINTER, rule.frame = 2, rule.address = ADDRESS_BESIDE_FRAME;
+        rule.offset = 2 * (int32_t)sizeof(uintptr_t);
+    }
+#endif
     if (rule.kind == CFI_BY_FRAME && rule.frame == 2 && rule.offset == 2 * (int32_t)sizeof(uintptr_t))
         rule.kind = CFI_POINTER;
     return rule;

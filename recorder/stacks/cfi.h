@@ -5,6 +5,8 @@
 
 #include <stdint.h>
 
+#include "base/platform.h"
+
 enum cfi_kind {
     CFI_UNKNOWN,  /* nothing is said that could be followed */
     CFI_LAST,     /* nobody has called this */
@@ -28,9 +30,10 @@ enum {
     CFI_CALLED = 4, /* for who keeps the rule */
 };
 
-/* How to go on from an instruction to the caller: the address after its call lies below the end of the frame. */
+/* How to go on from an instruction to the caller: the address after its call lies below the end of the frame; if the
+   processor has a register for it, so many words below, or in that if these are none. */
 struct cfi_rule {
-    unsigned char kind, frame, flags, unused;
+    unsigned char kind, frame, flags, address;
     int32_t offset;
 };
 
@@ -42,7 +45,7 @@ struct cfi_rule cfi_find(uintptr_t instruction);
 /* Stands in a function of the recorder that calls code which may call the program, or allocate. Stacks pass over it.
    It is an instruction of its description: the size of arguments, which says nothing in C, as no compiler would have
    it. */
-#define IS_OWN_FRAME __asm__ volatile(".cfi_escape 0x2e, 0xad, 0x4f")
+#define IS_OWN_FRAME DESCRIBE(".cfi_escape 0x2e, 0xad, 0x4f")
 #define CFI_OWN_MARK 10157
 
 #endif

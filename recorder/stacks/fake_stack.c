@@ -14,8 +14,8 @@
 
 /* Each fake stack has a slot in one range of addresses, and in it a part of equal size for itself and for each class.
    As with AddressSanitizer, a class has 1 MiB: 16,384 frames of 64 bytes, and 16 of 64 KiB. */
-#define SLOTS_START UINT64_C(0x510000000000)
-enum { SLOT_SHIFT = 24, SLOTS = 1 << 15, PART_SHIFT = 20 };
+#define SLOTS_START FAKE_SLOTS_START
+enum { SLOT_SHIFT = 24, SLOTS = 1 << FAKE_SLOTS_SHIFT, PART_SHIFT = 20 };
 #define PART_BYTES ((size_t)1 << PART_SHIFT)
 #define SLOT_BYTES ((1 + FAKE_CLASSES) * PART_BYTES)
 
@@ -243,19 +243,7 @@ void fake_context_begins(uintptr_t low, uintptr_t top)
         give_left(own, &left);
 }
 
-/* Frames. */
-
-/* In one instruction, which no handler of this thread comes into: what it runs may go on elsewhere, with this frame. */
-static inline bool set_flag(volatile unsigned char *flag)
-{
-    unsigned char expected = 0;
-    bool is_set;
-    __asm__ volatile("cmpxchgb %3, %1"
-                     : "=@ccz"(is_set), "+m"(*flag), "+a"(expected)
-                     : "q"((unsigned char)1)
-                     : "memory");
-    return is_set;
-}
+/* Frames. A handler may come at any time, and what it runs may go on elsewhere, with the frame. */
 
 /* The number of a frame that was free, or of none. It looks at no more than this many flags, or eight times the
    number. */
@@ -266,7 +254,7 @@ static inline uint32_t take_number(struct fake_stack *stack, unsigned class, uin
     uint32_t number = atomic_load_explicit(&stack->next[class], memory_order_relaxed), last = count_of(class) - 1;
     for (unsigned looks = 0; looks < LOOKS; looks++) {
         number &= last;
-        if (flags[number] == 0 && set_flag(&flags[number])) {
+        if (flags[number] == 0 && processor_set_flag(&flags[number])) {
             atomic_store_explicit(&stack->next[class], number + 1, memory_order_relaxed);
             return number;
         }

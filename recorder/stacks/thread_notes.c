@@ -3,6 +3,7 @@
 
 #include "base/platform.h"
 #include "base/system.h"
+#include "calls/library.h"
 
 _Thread_local struct own_notes own_notes = {.number = THREAD_UNKNOWN};
 
@@ -76,17 +77,9 @@ void thread_set_name(unsigned number, const uint64_t name[NAME_WORDS])
         copy_name(notes[number].name, name);
 }
 
-/* What stands for this thread with the C library is the address of its block, which has that address. */
-static uintptr_t own_thread(void)
-{
-    uintptr_t thread;
-    __asm__("movq %%fs:0x10, %0" : "=r"(thread));
-    return thread;
-}
-
 unsigned thread_named(uintptr_t thread, const uint64_t name[NAME_WORDS])
 {
-    uintptr_t distance = (uintptr_t)&own_notes - own_thread();
+    uintptr_t distance = (uintptr_t)&own_notes - PROCESSOR_THREAD(library_control_size());
     struct own_notes *of = thread != 0 ? (struct own_notes *)(thread + distance) : &own_notes;
     copy_name(of->name, name);
     /* After that: whoever begins meanwhile looks for a name once it has its number. */

@@ -32,38 +32,32 @@ void unwinding_modules_changed(void)
     atomic_fetch_add(&rules_generation, (uint64_t)1 << GENERATION_SHIFT);
 }
 
-/* How many bytes an instruction has by its second byte, which says where its operand is; this many exist. */
-static unsigned length_of(const unsigned char *code, unsigned there)
-{
-    enum { SMALL_OFFSET = 1, OFFSET = 2, REGISTER = 3, HAS_INDEX = 4, NO_BASE = 5 };
-    unsigned mode = code[1] >> 6, base = code[1] & 7, length = 2;
-    if (mode != REGISTER && base == HAS_INDEX) {
-        length++;
-        base = there > 2 ? code[2] & 7 : 0;
-    }
-    if (mode == OFFSET || (mode == 0 && base == NO_BASE))
-        return length + 4;
-    return mode == SMALL_OFFSET ? length + 1 : length;
-}
-
 /* Whether a call ends here: by the bytes of the instruction before. */
 static bool follows_call(uintptr_t address)
 {
-    enum { LONGEST = 7, SHORTEST = 2, RELATIVE = 5, CALL_RELATIVE = 0xe8, GROUP = 0xff, CALL = 2 };
     struct known_page page = {0};
-    unsigned char code[LONGEST];
-    if (!is_in_own_file(address - LONGEST, LONGEST) && !memory_is_there(&page, address - LONGEST, LONGEST))
+    unsigned char code[LONGEST_CALL];
+    if (!is_in_own_file(address - LONGEST_CALL, LONGEST_CALL)
+        && !memory_is_there(&page, address - LONGEST_CALL, LONGEST_CALL))
         return false;
-    __builtin_memcpy(code, (const void *)(address - LONGEST), LONGEST);
-    if (code[LONGEST - RELATIVE] == CALL_RELATIVE)
-        return true;
-    for (unsigned length = SHORTEST; length <= LONGEST; length++) {
-        const unsigned char *at = code + LONGEST - length;
-        if (at[0] == GROUP && (at[1] >> 3 & 7) == CALL && length == length_of(at, length))
-            return true;
-    }
-    return false;
+    __builtin_memcpy(code, (const void *)(address - LONGEST_CALL), LONGEST_CALL);
+    return processor_ends_call(code);
 }
+
+#if HAS_LINK_REGISTER
+
+/* Whether the system has called the handler that returns here. */
+static bool ends_handler(uintptr_t address)
+{
+    struct known_page page = {0};
+    uint32_t words[2];
+    if (address % sizeof *words != 0 || !memory_is_there(&page, address, sizeof words))
+        return false;
+    __builtin_memcpy(words, (const void *)address, sizeof words);
+    return processor_ends_handler(words);
+}
+
+#endif
 
 /* Code that lies together has places that do. */
 static inline size_t place_of_rule(uintptr_t instruction)
@@ -91,6 +85,10 @@ static __attribute__((noinline)) struct cfi_rule find_rule(uintptr_t instruction
             place = first ^ i;
     }
     found.rule = cfi_find(is_after_call ? instruction - 1 : instruction);
+#if HAS_LINK_REGISTER
+    if (found.rule.kind == CFI_UNKNOWN && ends_handler(instruction))
+        found.rule.kind = CFI_SIGNAL;
+#endif
     if (!is_after_call || found.rule.kind == CFI_SIGNAL || follows_call(instruction))
         found.rule.flags |= CFI_CALLED;
     atomic_store_explicit(&rules[place].rule, found.word, memory_order_relaxed);
@@ -151,7 +149,10 @@ static __attribute__((noinline)) bool is_pair_there(struct reach *reach, uintptr
 /* What the system has stored for the end of a handler lies at the stack pointer. */
 static bool leave_handler(uintptr_t stack, struct reach *reach, struct registers *stored)
 {
-    enum { STORED_FRAME = 120, STORED_STACK = 160, STORED_INSTRUCTION = 168 };
+#if HAS_LINK_REGISTER
+    if (!read_word(reach, stack + STORED_LINK, &stored->link))
+        return false;
+#endif
     return read_word(reach, stack + STORED_FRAME, &stored->frame)
            && read_word(reach, stack + STORED_STACK, &stored->stack)
            && read_word(reach, stack + STORED_INSTRUCTION, &stored->instruction);
@@ -196,22 +197,51 @@ static bool go_on_frame(struct registers *now, unsigned char frame, struct reach
     return is_there;
 }
 
+/* To the address after the call. */
+static bool go_on_address(struct registers *now, struct cfi_rule rule, uintptr_t end, struct reach *reach)
+{
+#if HAS_LINK_REGISTER
+    if (rule.kind == CFI_UNKNOWN)
+        rule.address = ADDRESS_BESIDE_FRAME;
+    uintptr_t address = now->link;
+    if (rule.address != 0 && !read_word(reach, end - rule.address * sizeof end, &address))
+        return false;
+    now->instruction = CODE_ADDRESS(address);
+    now->link = 0;
+    return true;
+#else
+    (void)rule;
+    return read_word(reach, end - sizeof end, &now->instruction);
+#endif
+}
+
+/* Whether a frame has no bytes, which it has as long as the address after the call is in a register. */
+static inline bool may_end_here(struct cfi_rule rule, uintptr_t end, uintptr_t stack)
+{
+#if HAS_LINK_REGISTER
+    return rule.address == 0 && end == stack;
+#else
+    (void)rule, (void)end, (void)stack;
+    return false;
+#endif
+}
+
 /* Goes on to the caller, or to what a handler has interrupted. */
 static bool go_on(struct registers *now, struct cfi_rule rule, struct reach *reach)
 {
     if (rule.kind == CFI_SIGNAL) {
-        struct registers stored = {0, 0, 0};
+        struct registers stored = {.instruction = 0};
         bool is_there = leave_handler(now->stack, reach, &stored);
         *now = stored;
         return is_there;
     }
     uintptr_t end = end_of(now, rule, reach);
-    if (end <= now->stack)
+    if (end <= now->stack && !may_end_here(rule, end, now->stack))
         return false;
     if (rule.kind == CFI_UNKNOWN || rule.kind == CFI_POINTER)
         rule.frame = CFI_FRAME_LINKED;
     now->stack = end;
-    return go_on_frame(now, rule.frame, reach) && read_word(reach, end - sizeof end, &now->instruction);
+    return go_on_frame(now, rule.frame, reach) && go_on_address(now, rule, end, reach);
 }
 
 static inline void add(struct stack *found, uintptr_t address)
@@ -221,8 +251,9 @@ static inline void add(struct stack *found, uintptr_t address)
 }
 
 /* Rules that most code of the program has: to follow the frame pointer; and those of `main`. */
-static const union rule_word pointer_rule = {{CFI_POINTER, 2, CFI_CALLED, 0, 2 * sizeof(uintptr_t)}};
-static const union rule_word main_rule = {{CFI_POINTER, 2, CFI_CALLED | CFI_MAIN, 0, 2 * sizeof(uintptr_t)}};
+static const union rule_word pointer_rule = {{CFI_POINTER, 2, CFI_CALLED, ADDRESS_BESIDE_FRAME, 2 * sizeof(uintptr_t)}};
+static const union rule_word main_rule = {
+    {CFI_POINTER, 2, CFI_CALLED | CFI_MAIN, ADDRESS_BESIDE_FRAME, 2 * sizeof(uintptr_t)}};
 
 /* The rule as one word. Of most instructions it is known which one they have. */
 static inline uint64_t word_of(uintptr_t instruction, uint64_t now, struct walks *walks)
@@ -256,7 +287,9 @@ static inline __attribute__((always_inline)) void step(struct walk *walk, uint64
     uintptr_t frame = walk->at.frame;
     frames[walk->count++] = walk->at.instruction;
     walk->hash = stack_hash(walk->hash, walk->at.instruction);
-    walk->at = (struct registers){word_above(frame, 1), frame + 2 * sizeof frame, word_above(frame, 0)};
+    walk->at = (struct registers){.instruction = CODE_ADDRESS(word_above(frame, 1)),
+                                  .stack = frame + 2 * sizeof frame,
+                                  .frame = word_above(frame, 0)};
     *walk->pair++ = (struct pair){walk->at.frame, walk->at.instruction};
 }
 
@@ -332,7 +365,7 @@ static inline bool find_call(uintptr_t start, uintptr_t caller, struct reach *re
             return false;
         *pair = (struct pair){word_above(frame, 0), word_above(frame, 1)};
         if (pair->second == caller) {
-            *found = (struct registers){caller, frame + 2 * sizeof frame, pair->first};
+            *found = (struct registers){.instruction = caller, .stack = frame + 2 * sizeof frame, .frame = pair->first};
             if (reach->keeping->walks != NULL)
                 keep_frames(reach->keeping, start, count);
             return true;

@@ -35,6 +35,7 @@ void unwind_end(const struct stack *found, uint64_t place);
 /* Where a signal has met a thread. */
 struct registers {
     uintptr_t instruction, stack, frame;
+    LINK_REGISTER
 };
 
 /* The same, from any instruction on, whose address comes first, with 1 added, as if it were a call. */

@@ -102,7 +102,7 @@ static void stop_at(uint64_t count)
     if (stop == 0 || count + 1 < stop || !atomic_compare_exchange_strong(&shared.stop, &stop, 0))
         return;
     state_set_events_end(0);
-    __asm__ volatile("int3"); /* also if SIGTRAP is blocked */
+    processor_stop(); /* also if SIGTRAP is blocked */
 }
 
 /* A handler may have interrupted the allocator, so that there can be no snapshot of the heap just now. What a child of

@@ -38,7 +38,7 @@ void record_range(enum code code, uint64_t address, uint64_t size, uintptr_t cal
     struct access access = access_of(code, address, size, caller, NULL);
     for (unsigned width; size > 0; address += width, size -= width) {
         width = piece_at(address, size);
-        if (address > ADDRESS_END - width)
+        if (address > MEMORY_END - width)
             return;
         record_piece_of(code, width, address, caller, &access);
     }
@@ -57,7 +57,7 @@ static void record_bad_pieces(struct access *access, uint64_t address, uint64_t 
     size -= skipped;
     for (unsigned looks = 0; size > 0 && looks < MAX_LOOKS; looks++, address += width, size -= width) {
         width = piece_at(address, size);
-        if (address > ADDRESS_END - width)
+        if (address > MEMORY_END - width)
             return;
         if (!shadow_is_bad(address, width))
             continue;
@@ -108,9 +108,9 @@ static void record_piece(enum code code, unsigned char shade, uint64_t address, 
    part, and at the ends of the allocator's memory. */
 static void record_pieces(enum code code, unsigned char shade, uint64_t address, uint64_t size)
 {
-    if (address >= ADDRESS_END)
+    if (address >= MEMORY_END)
         return;
-    size = size > ADDRESS_END - address ? ADDRESS_END - address : size;
+    size = size > MEMORY_END - address ? MEMORY_END - address : size;
     for (uint64_t piece; size > 0; address += piece, size -= piece) {
         piece = region_piece(address, size);
         record_piece(code, shade, address, piece);

@@ -48,7 +48,7 @@ static inline void record_piece_of(enum code code, unsigned width, uint64_t addr
 {
     struct stream *stream = &stream_page.stream;
     unsigned code_and_width = code | width << 8;
-    if (UNLIKELY(address > ADDRESS_END - width))
+    if (UNLIKELY(address > MEMORY_END - width))
         return; /* it can't be spelled, and would end the stream */
     bool is_in_frame = is_frame_in_block(address, width);
     if (UNLIKELY(is_in_frame) && !above.has_frame((uintptr_t)__builtin_frame_address(0), address)) {

@@ -9,7 +9,7 @@
 
 static bool can_be_spelled(uint64_t address, uint64_t size)
 {
-    return size <= MAX_REGION_SIZE && address <= ADDRESS_END - size;
+    return size <= MAX_REGION_SIZE && address <= MEMORY_END - size;
 }
 
 /* After a record is written. */
@@ -66,7 +66,7 @@ void record_unused(uint64_t address, uint64_t size)
 
 void record_free(uint64_t address)
 {
-    unsigned char *at = address < ADDRESS_END ? stream_reserve(FREE_LENGTH, true) : NULL;
+    unsigned char *at = address < MEMORY_END ? stream_reserve(FREE_LENGTH, true) : NULL;
     if (at == NULL)
         return;
     put_number(at + 1, address);

@@ -372,10 +372,10 @@ void side_note_snapshot(uint64_t events)
 
 static void count_up(uint64_t *number)
 {
-#if defined __x86_64__
+#if HAS_ADDITION_ALONE
     /* As stream_take does it. An atomic addition would wait until all is stored that came before. */
     if (LIKELY(library_is_alone())) {
-        __asm__ volatile("incq %0" : "+m"(*number) : : "memory", "cc");
+        processor_count_alone(number);
         return;
     }
 #endif

@@ -91,7 +91,7 @@ void stated_bring_up(uint64_t address, unsigned width)
     uint64_t granule = address / GRANULE * GRANULE, next = granule + GRANULE;
     unsigned has = addressable_of(bring_up(granule));
     bool is_bad = address % GRANULE + width > has;
-    if (has != 0 && has < GRANULE && is_bad && next < ADDRESS_END && !is_in_arena(next))
+    if (has != 0 && has < GRANULE && is_bad && next < MEMORY_END && !is_in_arena(next))
         bring_up(next);
 }
 

@@ -192,7 +192,7 @@ void record_watched_access(unsigned code_and_width, uint64_t address, uintptr_t 
 void record_bad_free(uint64_t address, uintptr_t caller, const char *call)
 {
     struct access access = access_of(CODE_FREE, address, 0, caller, call);
-    if (address >= ADDRESS_END)
+    if (address >= MEMORY_END)
         return;
     if (!is_on() && !stream_wake()) {
         record_too_late(true);

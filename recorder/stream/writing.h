@@ -21,14 +21,13 @@
 /* Adds to the cursor, and says what it was. */
 static inline uint64_t stream_take(_Atomic uint64_t *cursor, uint64_t step)
 {
-#if defined __x86_64__
-    /* With one thread only a signal handler can come between, and none comes between the halves of an instruction. */
-    if (LIKELY(library_is_alone())) {
-        __asm__ volatile("xaddq %0, %1" : "+r"(step), "+m"(*(uint64_t *)cursor) : : "memory", "cc");
-        return step;
-    }
+#if HAS_ADDITION_ALONE
+    if (LIKELY(library_is_alone()))
+        return processor_add_alone(cursor, step);
 #endif
-    return atomic_fetch_add(cursor, step);
+    uint64_t before = atomic_fetch_add(cursor, step);
+    PROCESSOR_STAYS_BEHIND; /* what a record makes good is painted after it has its place (heap/paint.h) */
+    return before;
 }
 
 /* Whether the place that was taken by this cursor is past a limit. Off is below CURSOR_ON, and so past every limit in

@@ -107,10 +107,31 @@ def check_layers(suite: Suite, folder: str) -> None:
     expect(sorted(left), [], "parts in a cycle of includes")
 
 
+# What is a processor's: assembly, names of registers and of relocations, headers of single processors.
+OF_A_PROCESSOR = re.compile(r"\b(asm|__asm__|__(x86_64|aarch64)__|[eix]mmintrin|arm_neon|R_(X86_64|AARCH64)_\w+"
+                            r"|REG_R[A-Z]+|gregs|_mm_\w+|__m128i)\b")
+# Where that stands. platform.h has what any compiler takes; Clang's header is for programs, and the wrapper is a
+# program of this machine, whichever it compiles for.
+PROCESSORS = ("base/x86_64", "base/aarch64", "base/processor", "base/platform.h", "clang_intrinsics.h", "wrapper/",
+              "tests/", "out/")
+
+
+def check_processors(suite: Suite, folder: str) -> None:
+    """All that is one processor's is in its headers (base/processor.h)."""
+    found = []
+    for path in sorted(glob.glob(f"{RECORDER}/**/*.[chS]", recursive=True)):
+        name = os.path.relpath(path, RECORDER)
+        if not name.startswith(PROCESSORS):
+            with open(path, encoding="utf-8") as file:
+                text = re.sub(r"<asm/\w+", "", file.read())
+            found += [f"{name}: {it.group()}" for it in OF_A_PROCESSOR.finditer(text)]
+    expect(found, [], "only for one processor")
+
+
 def check_headers(suite: Suite, folder: str, compiler: Compiler) -> None:
     headers = [os.path.relpath(it, RECORDER) for it in glob.glob(f"{RECORDER}/**/*.h", recursive=True)]
     headers += [os.path.relpath(it, f"{RECORDER}/..") for it in glob.glob(f"{RECORDER}/../common/*.h")]
-    others = ("tests/", "out/", "cold_reports", "clang_intrinsics", "cxx/")
+    others = ("tests/", "out/", "cold_reports", "clang_intrinsics", "cxx/", "base/aarch64")
     headers = [it for it in headers if not it.startswith(others)]
     expect(len(headers) > 30, True, "headers")
     for header in headers:
@@ -125,3 +146,4 @@ def tests(suite: Suite, compiler: Compiler) -> None:
 def tests_of_all(suite: Suite) -> None:
     suite.test("signal safety", check_handlers)
     suite.test("layers", check_layers)
+    suite.test("processors", check_processors)

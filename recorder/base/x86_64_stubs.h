@@ -1,0 +1,133 @@
+/* The assembly of x86-64: the texts of which stubs are made. processor_stubs.h includes it, and stubs.h and others say
+   what they are for. In all of them r10 and r11 are free, and all that may bring an argument stays. */
+#ifndef ASANCOL_X86_64_STUBS_H
+#define ASANCOL_X86_64_STUBS_H
+
+/* Where a function may be called by its address. */
+#define LANDING "\tendbr64\n"
+/* Goes to a function by the slot that the linker makes for it; or to what a pointer in the object leads to. */
+#define GO_BY_SLOT(name) "\tjmp *" name "@GOTPCREL(%rip)\n"
+#define GO_BY_POINTER(label) "\tjmp *" label "(%rip)\n"
+#define RETURN "\tret\n"
+/* A word with how far the slot of a function is from here, as a list of stubs has it; and what has to come before the
+   list. */
+#define SLOT_FOR_LIST(name)
+#define SLOT_OF_LIST(name) "\t.long " name "@GOTPCREL\n"
+
+/* Goes to `check` if the code of `tested` is in one of the three ranges of the hook page, and else to `real`. */
+#define GO_IF_IN(start, size, tested, check)                                                                           \
+    "\tmovq " tested "@GOTPCREL(%rip), %r11\n"                                                                         \
+    "\tsubq " start "(%r10), %r11\n"                                                                                   \
+    "\tcmpq " size "(%r10), %r11\n"                                                                                    \
+    "\tjb " check "\n"
+#define GO_IF_CHECKED(tested, check, real)                                                                             \
+    "\tmovabsq $" TEXT(HOOK_PAGE_START) ", %r10\n"                                                                     \
+    GO_IF_IN("8", "16", tested, check)                                                                                 \
+    GO_IF_IN("24", "32", tested, check)                                                                                \
+    GO_IF_IN("40", "48", tested, check)                                                                                \
+    GO_BY_SLOT(real)
+
+/* Goes to the function if the shadow is clean of an object that begins a granule and has so many bytes of shadow bits.
+   That is read for addresses alone, short of the map's end. */
+enum { STUBS_SHADOW_START = 0x7fff8000, STUBS_ADDRESS_BITS = 47 };
+#define GO_IF_CLEAN(name, bytes)                                                                                       \
+    "\tmovq %rdi, %r11\n"                                                                                              \
+    "\ttestb $7, %dil\n"                                                                                               \
+    "\tjne 1f\n"                                                                                                       \
+    "\tshrq $3, %r11\n"                                                                                                \
+    "\tleaq 8(%r11), %r10\n"                                                                                           \
+    "\tshrq $44, %r10\n"                                                                                               \
+    "\tjne 1f\n"                                                                                                       \
+    "\tmovq 0x7fff8000(%r11), %r11\n"                                                                                  \
+    "\tshlq $64 - " #bytes ", %r11\n"                                                                                  \
+    "\tjne 1f\n"                                                                                                       \
+    GO_BY_SLOT("__real_" #name)                                                                                        \
+    "1:\n"
+
+/* Goes to the check of a function, unless it is the object's own or the program's, or the object's code is not known
+   yet: then it goes to the function. */
+#define GO_UNLESS_OWN(name, first)                                                                                     \
+    "\tcmpq $0, asancol_own_code+8(%rip)\n"                                                                            \
+    "\tje 1f\n"                                                                                                        \
+    "\tmovq __real_" #name "@GOTPCREL(%rip), %r11\n" first "\tmovq %r11, %r10\n"                                       \
+    "\tsubq asancol_own_code(%rip), %r10\n"                                                                            \
+    "\tcmpq asancol_own_code+8(%rip), %r10\n"                                                                          \
+    "\tjb 1f\n"                                                                                                        \
+    "\tmovabsq $" TEXT(HOOK_PAGE_START) ", %r10\n"                                                                     \
+    "\tsubq 56(%r10), %r11\n"                                                                                          \
+    "\tcmpq 64(%r10), %r11\n"                                                                                          \
+    "\tjae checked_" #name "\n"                                                                                        \
+    "1:" GO_BY_SLOT("__real_" #name)
+/* As `first` there: if the function is this one. */
+#define GO_IF_IT_IS(other, check)                                                                                      \
+    "\tcmpq " other "@GOTPCREL(%rip), %r11\n"                                                                          \
+    "\tje " check "\n"
+
+/* Goes to one function if there is one, and else to the other. */
+#define GO_TO_EITHER(one, other)                                                                                       \
+    "\tmovq " one "@GOTPCREL(%rip), %r11\n"                                                                            \
+    "\ttestq %r11, %r11\n"                                                                                             \
+    "\tcmoveq " other "@GOTPCREL(%rip), %r11\n"                                                                        \
+    "\tjmp *%r11\n"
+/* Goes on at `label` if a function lies in the program, whose code has so many bytes by a variable. */
+#define GO_IF_OF_PROGRAM(name, size, label)                                                                            \
+    "\tmovq " name "@GOTPCREL(%rip), %r11\n"                                                                           \
+    "\tleaq __ehdr_start(%rip), %r10\n\tsubq %r10, %r11\n\tcmpq " size "(%rip), %r11\n\tjb " label "\n"
+
+/* Calls a function of C with the three arguments that the stub has; in the second form with the first two, or by
+   FIRST_IS_SECOND with none and the first, and the stack pointer of the caller. */
+#define KEEP(name) "\tpushq %" name "\n\t.cfi_adjust_cfa_offset 8\n"
+#define TAKE_BACK(name) "\tpopq %" name "\n\t.cfi_adjust_cfa_offset -8\n"
+#define KEEP_THREE KEEP("rdi") KEEP("rsi") KEEP("rdx")
+#define TAKE_THREE TAKE_BACK("rdx") TAKE_BACK("rsi") TAKE_BACK("rdi")
+#define CALL_WITH_ARGUMENTS(function) KEEP_THREE "\tcall " function "\n" TAKE_THREE
+#define CALL_WITH_STACK(function, pass) KEEP_THREE "\tleaq 32(%rsp), %rdx\n" pass "\tcall " function "\n" TAKE_THREE
+#define FIRST_IS_SECOND "\tmovq %rdi, %rsi\n\txorl %edi, %edi\n"
+/* And goes to its result, or returns if that is null; or returns its result, or goes to the second word of it if the
+   first is null. */
+#define GO_TO_RESULT(function) CALL_WITH_ARGUMENTS(function) "\ttestq %rax, %rax\n\tjz 1f\n\tjmp *%rax\n1:\tret\n"
+#define RETURN_OR_GO(function)                                                                                         \
+    KEEP_THREE "\tcall " function "\n\tmovq %rdx, %r11\n" TAKE_THREE                                                   \
+    "\ttestq %rax, %rax\n\tjz 1f\n\tret\n1:\tjmp *%r11\n"
+/* Calls one with the stack pointer of the caller alone. */
+#define CALL_WITH_STACK_ALONE(function)                                                                                \
+    "\tleaq 8(%rsp), %rdi\n"                                                                                           \
+    "\tsubq $8, %rsp\n"                                                                                                \
+    "\t.cfi_adjust_cfa_offset 8\n"                                                                                     \
+    "\tcall " function "\n"                                                                                            \
+    "\taddq $8, %rsp\n"                                                                                                \
+    "\t.cfi_adjust_cfa_offset -8\n"
+/* Stores the registers that belong to the caller, and calls a function with where they are. */
+#define CALL_WITH_REGISTERS(function)                                                                                  \
+    "\tpushq %rbp\n"                                                                                                   \
+    ".cfi_def_cfa_offset 16\n"                                                                                         \
+    ".cfi_offset 6, -16\n"                                                                                             \
+    "\tmovq %rsp, %rbp\n"                                                                                              \
+    ".cfi_def_cfa_register 6\n"                                                                                        \
+    "\tpushq %rbx\n"                                                                                                   \
+    "\tpushq %r12\n"                                                                                                   \
+    "\tpushq %r13\n"                                                                                                   \
+    "\tpushq %r14\n"                                                                                                   \
+    "\tpushq %r15\n"                                                                                                   \
+    "\tmovq %rsp, %rdi\n"                                                                                              \
+    "\tpushq %rdi\n" /* the stack is at a multiple of 16 again */                                                      \
+    "\tcall " function "\n"                                                                                            \
+    "\tleave\n"                                                                                                        \
+    ".cfi_def_cfa 7, 8\n"                                                                                              \
+    "\tret\n"
+
+/* The end of a handler. Debuggers and unwinders know it by these bytes, and look at the one before. */
+#define BEFORE_END_OF_HANDLER "\tnop\n"
+#define END_OF_HANDLER "\tmovq $15, %rax\n\tsyscall\n"
+
+/* Goes where a way leads (process/exports.c); or asks first, with the way: all arguments are in these registers. */
+#define GO_ASKING(label, way) "\tleaq " way "(%rip), %r11\n\tjmp " label "\n"
+#define ASK_AND_GO(function)                                                                                           \
+    KEEP("rdi") KEEP("rsi") KEEP("rdx") KEEP("rcx") KEEP("r8")                                                         \
+    "\tmovq %r11, %rdi\n"                                                                                              \
+    "\tcall " function "\n"                                                                                            \
+    "\tmovq %rax, %r11\n"                                                                                              \
+    TAKE_BACK("r8") TAKE_BACK("rcx") TAKE_BACK("rdx") TAKE_BACK("rsi") TAKE_BACK("rdi")                                \
+    "\tjmp *%r11\n"
+
+#endif
