@@ -14,6 +14,7 @@
 #include "wrapper/compiling.h"
 #include "wrapper/running.h"
 #include "wrapper/say.h"
+#include "wrapper/self.h"
 
 /* Of the compiler's arguments those that are options of it, as -m32, come before the caller's. */
 static void read_arguments(struct job *job)
@@ -67,6 +68,9 @@ int main(int count, char **argv)
     job.links = request->inputs.has_linked && !request->stops_early && !request->link.is_partial;
     const struct linked *linked = &request->inputs.linked;
     bool is_compiled_late = linked->has_marked && (linked->has_lto || linked->has_bitcode);
+    job.target = job.takes_part ? target_of(&job) : NULL;
+    if (job.target != NULL)
+        self_set_folder(job.target->machine);
     bool compiles = job.takes_part && (request->inputs.has_source || is_compiled_late);
     if (compiles || (request->foreign == NULL && request->says_use_after_return))
         job.compiler = compiler_of(job.command.items, job.command.count);

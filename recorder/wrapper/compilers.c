@@ -24,7 +24,7 @@
 /* -fsanitize=kernel-address is the form that goes on after a call for a bad access, and links no runtime. Where the
    shadow begins is said in shadow.h. */
 #define GCC_CHECKS(threshold)                                                                                          \
-    FLAGS(COMPILED_SO, STACKS, "-fasan-shadow-offset=0x7fff8000", "-fsanitize-address-use-after-scope", "--param",     \
+    FLAGS(COMPILED_SO, STACKS, "-fasan-shadow-offset=" SHADOW_HERE, "-fsanitize-address-use-after-scope", "--param",   \
           "asan-instrumentation-with-call-threshold=" threshold, "--param", "asan-stack=1", "--param",                 \
           "asan-globals=1", "--param", "asan-instrument-allocas=1")
 
@@ -34,7 +34,7 @@
    calls after a check names of their own. It takes each word of -mllvm once: none of what callers set stands here. */
 #define CLANG_CHECKS(threshold, experiment)                                                                            \
     FLAGS(COMPILED_SO, "-fno-sanitize=kernel-address", "-Xclang", "-fsanitize=address", "-Xclang",                     \
-          "-fsanitize-recover=address", STACKS, "-mllvm", "-asan-mapping-offset=0x7fff8000", "-Xclang",                \
+          "-fsanitize-recover=address", STACKS, "-mllvm", "-asan-mapping-offset=" SHADOW_HERE, "-Xclang",              \
           "-fsanitize-address-use-after-scope", "-mllvm", "-asan-instrumentation-with-call-threshold=" threshold,      \
           "-mllvm", "-asan-force-experiment=" experiment, "-mllvm", "-asan-guard-against-version-mismatch=0")
 

@@ -8,6 +8,9 @@
 #include "wrapper/left_out.h"
 #include "wrapper/use_after_return.h"
 
+/* Where the shadow begins, at the end of a flag: another processor has it elsewhere (target.h). */
+#define SHADOW_HERE "0x7fff8000"
+
 struct flags {
     const char *const *items;
     size_t count;

@@ -80,6 +80,23 @@ static bool compiles_at_link(const struct job *job)
     return job->compiler->compiles_at_link && job->request.inputs.linked.has_marked;
 }
 
+/* Flags, with the place of the shadow that the processor has. */
+static void add_flags(struct strings *line, const struct flags *flags, const struct target *target)
+{
+    static const char here[] = SHADOW_HERE;
+    for (size_t i = 0; i < flags->count; i++) {
+        const char *item = flags->items[i];
+        char *word;
+        if (target == NULL || !ends_with(item, here)) {
+            strings_add(line, item);
+            continue;
+        }
+        if (asprintf(&word, "%.*s%s", (int)(strlen(item) + 1 - sizeof here), item, target->shadow) < 0)
+            no_memory();
+        strings_add(line, word);
+    }
+}
+
 /* The calls before accesses: when compiling, and for GCC when linking too. It would compile then with the settings of
    an object that was made without these flags. */
 static void add_checks(struct strings *line, const struct job *job)
@@ -91,7 +108,7 @@ static void add_checks(struct strings *line, const struct job *job)
     if (compiler->compiles_at_link && !job->request.stops_early && inputs->linked.unmarked_lto != NULL)
         fail(inputs->linked.unmarked_lto, "it was made with -flto, but not by asancol-cc: compile it again");
     const struct flags *flags = job->request.is_all ? &compiler->all_flags : &compiler->flags;
-    strings_add_all(line, flags->items, flags->count);
+    add_flags(line, flags, job->target);
     const struct flags *returns = &compiler->use_after_return[job->request.use_after_return];
     strings_add_all(line, returns->items, returns->count);
     add_own_number(line, job);
@@ -132,7 +149,7 @@ char *compiling_object(const struct job *job)
     const struct request *request = &job->request;
     struct stat seen;
     bool has_checks = job->compiler != NULL && request->refusal == NULL && request->kept.count == 0;
-    if (!has_checks || request->is_all || request->is_libcxx || !makes_one_object(request))
+    if (!has_checks || request->is_all || request->is_libcxx || job->target != NULL || !makes_one_object(request))
         return NULL;
     char *object = request->link.output != NULL ? must(strdup(request->link.output))
                                                 : usual_object(request->inputs.sources.names[0]);

@@ -6,11 +6,13 @@
 #include "wrapper/compilers.h"
 #include "wrapper/fronts.h"
 #include "wrapper/request.h"
+#include "wrapper/target.h"
 
 struct job {
     const struct front *front;
     struct strings command;          /* of the compiler */
     const struct compiler *compiler; /* null: it was not asked which it is, or it is not known */
+    const struct target *target;     /* the processor that it is for; null: this one */
     struct request request;
     char **arguments; /* of the caller's, with a null at the end */
     char *object;     /* that will ask for what the recorder has of the library of C++ (checked_names.h); or null */

@@ -20,17 +20,31 @@ const char *self_path(void)
     return path;
 }
 
-char *self_find_file(const char *name)
+static const char *first_folder;
+
+void self_set_folder(const char *folder)
+{
+    first_folder = folder;
+}
+
+static char *find_in(const char *folder, const char *name)
 {
     static const char *const places[] = {"", "../lib/asancol/"};
     const char *self = self_path();
     for (size_t i = 0; i < COUNT(places); i++) {
         char path[2 * PATH_MAX];
-        snprintf(path, sizeof path, "%.*s%s%s", (int)(base_name(self) - self), self, places[i], name);
+        snprintf(path, sizeof path, "%.*s%s%s%s%s", (int)(base_name(self) - self), self, places[i], folder,
+                 folder[0] != 0 ? "/" : "", name);
         if (access(path, R_OK) == 0)
             return must(strdup(path));
     }
     return NULL;
+}
+
+char *self_find_file(const char *name)
+{
+    char *path = first_folder != NULL ? find_in(first_folder, name) : NULL;
+    return path != NULL ? path : find_in("", name);
 }
 
 char *self_file(const char *name)

@@ -38,6 +38,7 @@ static bool is_of_system(const char *path)
         if (begins_with(real, folders[i]))
             return true;
     return strstr(real, "/lib/gcc/") != NULL || strstr(real, "/lib/clang/") != NULL
+           || strstr(real, "-linux-gnu/lib/") != NULL /* of another processor */
            || strstr(real, RUST_LIBRARIES) != NULL;
 }
 
