@@ -1,0 +1,157 @@
+"""Programs for ARM (aarch64), built by a cross compiler and run under qemu: each has the report that AddressSanitizer
+has of it there. They are checked by the same program as all others."""
+
+import os
+import re
+import shutil
+from typing import Dict, List, NamedTuple, Optional, Tuple
+
+from support import CC, RECORDER, TESTS, TOP, Compiler, Suite, build, expect, leave_out, run
+from testing import Later
+from testing.programs import REPORT
+
+RUN = f"{TOP}/run/asancol-run"
+MACHINE = "aarch64-linux-gnu"
+CROSS = f"{MACHINE}-gcc"
+QEMU = ("qemu-aarch64", "-L", f"/usr/{MACHINE}")
+# A trace that is judged later, by another machine.
+SAVED = {"ASANCOL_TRACE": "t.trace", "ASANCOL_WHERE": "1"}
+
+BY_SANITIZER = re.compile(r"ERROR: AddressSanitizer: (?:attempting )?([\w-]+)(?: on address| on unknown)?[^\n]*\n"
+                          r"(?:(?! +#).*\n)*(?: +#\d.*\n)*? +#\d+ 0x\w+ in (\w+) \S*arm\.c:(\d+)")
+BY_ASANCOL = re.compile(r"ERROR: asancol: ([\w-]+)[^\n]*\n(?: +#\d.*\n)*? +#\d+ 0x\w+ in (\w+) \S*arm\.c:(\d+)")
+
+
+class Said(NamedTuple):
+    """A report: its class, and the function and the line of its innermost frame in the program."""
+
+    kind: str
+    function: str
+    line: int
+
+
+def first_of(pattern: "re.Pattern[str]", text: str) -> Optional[Said]:
+    found = pattern.search(text)
+    # AddressSanitizer's words for a free are a sentence.
+    return Said(found[1].replace("free", "bad-free") if found[1] == "free" else found[1], found[2], int(found[3])) \
+        if found else None
+
+
+def line_of(word: str) -> int:
+    with open(f"{TESTS}/arm.c", encoding="utf-8") as file:
+        return next(number for number, line in enumerate(file, 1) if f"/* {word} */" in line)
+
+
+# What each bug is called, and in which function and line it is; by its argument.
+BUGS: Dict[str, Tuple[str, str]] = {
+    "heap": ("heap-buffer-overflow", "heap"),
+    "below": ("heap-buffer-overflow", "below"),
+    "freed": ("heap-use-after-free", "freed"),
+    "twice": ("double-free", "twice"),
+    "bad": ("bad-free", "bad"),
+    "stack": ("stack-buffer-overflow", "stack"),
+    "variable": ("global-buffer-overflow", "variable"),
+    "scope": ("stack-use-after-scope", "scope"),
+    "copies": ("heap-buffer-overflow", "copies"),
+    "prints": ("heap-buffer-overflow", "prints"),
+    "compares": ("heap-buffer-overflow", "compares"),
+    "thread": ("heap-buffer-overflow", "in_thread"),
+    "child": ("heap-buffer-overflow", "child"),
+    "handler": ("heap-buffer-overflow", "on_signal"),
+    "returns": ("stack-use-after-return", "returns"),
+}
+LEVELS = ("-O0", "-O2")
+
+
+def compile_recorded(folder: str, sources: List[str], program: str, *flags: str) -> None:
+    build([CC, "-g", *flags, *sources, "-o", program], folder, ASANCOL_CC=CROSS)
+
+
+def make_library() -> None:
+    build(["make", "-j2", f"CC={CROSS}"], RECORDER)
+
+
+def make_program(folder: str, library: Later, level: str) -> None:
+    library.made()
+    compile_recorded(folder, [f"{TESTS}/arm.c"], f"{folder}/arm{level}", level, "-w",
+                     "-fsanitize-address-use-after-return=runtime")
+
+
+def make_sanitized(folder: str, level: str) -> None:
+    flags = ("-g", level, "-w", "-fsanitize=address")
+    build([CROSS, *flags, f"{TESTS}/arm.c", "-o", f"{folder}/sanitized{level}"], folder)
+
+
+def check_readme(suite: Suite, folder: str, library: str) -> None:
+    """The report of README.md's first screen, of a program for another processor."""
+    compile_recorded(folder, [f"{TOP}/examples/bug.c"], f"{folder}/bug")
+    ran = run([RUN, "--", *QEMU, "./bug", "Alice"], folder, ASANCOL=suite.asancol)
+    text = ran.stderr.decode()
+    for part in ("ERROR: asancol: heap-buffer-overflow: store of 6 bytes in strcpy\n", " in main ", "bug.c:6:12\n",
+                 " is 0 bytes past the end of a block of 5 bytes\n", "bug.c:5:4", "1 process, 4 events; all complete\n",
+                 "leaks: 5 bytes in 1 block at 1 place"):
+        expect(part in text, True, f"{part!r} in {text}")
+    expect((ran.returncode, ran.stdout), (99, b"Alice\n"), text)
+
+
+def check_bug(suite: Suite, folder: str, program: str, sanitized: str, word: str) -> None:
+    """The class, the function and the line are those that AddressSanitizer says."""
+    kind, function = BUGS[word]
+    line = line_of({"in_thread": "thread", "on_signal": "handler"}.get(function, function))
+    ran = run([RUN, "--", *QEMU, program, word], folder, ASANCOL=suite.asancol)
+    text = ran.stderr.decode()
+    expect((first_of(BY_ASANCOL, text), ran.returncode), (Said(kind, function, line), 99), text)
+    expect(text.count("ERROR: asancol"), 1, text)
+    ran = run([*QEMU, sanitized, word], folder, ASAN_OPTIONS="detect_leaks=0:detect_stack_use_after_return=1")
+    text = ran.stderr.decode()
+    expect(first_of(BY_SANITIZER, text), Said(kind, function, line), text)
+
+
+def check_others(suite: Suite, folder: str, program: str) -> None:
+    """A leak, for which AddressSanitizer needs ptrace; a null pointer; and a program that does nothing wrong."""
+    ran = run([RUN, "--leaks=yes", "--", *QEMU, program, "leak"], folder, ASANCOL=suite.asancol)
+    text = ran.stderr.decode()
+    expect(("10 bytes" in text, "in leak " in text, ran.returncode), (True, True, 99), text)
+    ran = run([RUN, "--", *QEMU, program, "null"], folder, ASANCOL=suite.asancol)
+    text = ran.stderr.decode()
+    expect((f"arm.c:{line_of('null')}" in text, "store" in text), (True, True), text)
+    ran = run([RUN, "--", *QEMU, program, "good"], folder, ASANCOL=suite.asancol)
+    text = ran.stderr.decode()
+    expect((ran.returncode, "no reports; 3 processes" in text, "all complete" in text), (0, True, True), text)
+
+
+def check_saved(suite: Suite, folder: str, program: str) -> None:
+    """A trace that a program has left in a file is judged elsewhere."""
+    ran = run([*QEMU, program, "freed"], folder, **SAVED)
+    expect((ran.returncode, ran.stderr), (0, b""), "the program")
+    os.mkdir(f"{folder}/copied")
+    for name in ("t.trace", "t.trace.where"):
+        shutil.move(f"{folder}/{name}", f"{folder}/copied/{name}")
+    ran = run([REPORT, "--trace", "copied/t.trace"], folder, ASANCOL=suite.asancol)
+    text = ran.stdout.decode() + ran.stderr.decode()
+    expect(first_of(BY_ASANCOL, text), Said("heap-use-after-free", "freed", line_of("freed")), text)
+
+
+def what_is_missing() -> str:
+    missing = [it for it in (CROSS, QEMU[0]) if shutil.which(it) is None]
+    return " and ".join(missing)
+
+
+def tests_of_all(suite: Suite) -> None:
+    missing = what_is_missing()
+    if missing:
+        leave_out(f"programs for ARM: {missing} is not there")
+        return
+    library = Later(RECORDER, make_library)
+    suite.test("arm: the bug of README.md", check_readme, library)
+    for level in LEVELS:
+        program = Later(f"{suite.folder}/arm{level}", make_program, suite.folder, library, level)
+        sanitized = Later(f"{suite.folder}/sanitized{level}", make_sanitized, suite.folder, level)
+        for word in BUGS:
+            suite.long_test(f"arm: {word} {level}", check_bug, program, sanitized, word)
+        suite.long_test(f"arm: others {level}", check_others, program)
+        suite.long_test(f"arm: a saved trace {level}", check_saved, program)
+
+
+def tests(suite: Suite, compiler: Compiler) -> None:
+    """None of them is by a compiler for this machine."""
