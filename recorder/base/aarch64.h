@@ -1,4 +1,4 @@
-/* All that is AArch64 in the recorder, but for the assembly of stubs (aarch64_stubs.h). processor.h includes it; what
+/* All of AArch64 in the recorder, except the assembly of stubs (aarch64_stubs.h). processor.h includes it; what
    each part is for stands in x86_64.h. */
 #ifndef ASANCOL_AARCH64_H
 #define ASANCOL_AARCH64_H
@@ -182,7 +182,7 @@ enum { STORED_FRAME = 544, STORED_LINK = 552, STORED_STACK = 560, STORED_INSTRUC
 #define HAS_LINK_REGISTER 1
 #define LINK_REGISTER uintptr_t link;
 #define CODE_ADDRESS(word) ((word) & (UINT64_MAX >> 16))
-/* It lies so many words below the end of the frame, if a frame pointer leads there. */
+/* By how many words it lies below the end of the frame, if a frame pointer leads there. */
 enum { ADDRESS_BESIDE_FRAME = 1 };
 /* In a description: from here on it is signed, or not. */
 enum { SIGNS_ADDRESS = 0x2d };

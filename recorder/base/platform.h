@@ -24,9 +24,9 @@
    so that those share few pages: each start and each forked child touches these. */
 #define AS_TABLE __attribute__((section(".bss.table")))
 
-/* For the compiler alone: what was written before is in memory here, and what is read after is read from there. */
+/* For the compiler alone: earlier writes are in memory here, and later reads are from there. */
 #define STAYS_IN_ORDER __asm__ volatile("" : : : "memory")
-/* Likewise, and nobody knows what this may lead to. */
+/* The same, and nobody knows where this may lead. */
 #define STAYS_AT(place) __asm__ volatile("" : : "r"(place) : "memory")
 /* A text for the assembler outside of functions; and in one what it writes of the frame. */
 #define TOP_ASM __asm__

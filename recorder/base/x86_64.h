@@ -1,4 +1,4 @@
-/* All that is x86-64 in the recorder, but for the assembly of stubs (x86_64_stubs.h). processor.h includes it. */
+/* All of x86-64 in the recorder, except the assembly of stubs (x86_64_stubs.h). processor.h includes it. */
 #ifndef ASANCOL_X86_64_H
 #define ASANCOL_X86_64_H
 
@@ -51,7 +51,7 @@ enum { PAGE = 4096 };
 /* Programs run under emulators of user processes, which don't know all calls of the system. */
 #define MAY_BE_EMULATED 0
 
-/* Where addresses end, of which what is not smaller leads nowhere. */
+/* The end of addresses: this one and greater ones lead nowhere. */
 #define MEMORY_END ((uint64_t)1 << 47)
 
 /* Where the maps lie: free in all layouts of a process. Programs lie from 0x5555.. on, or below 2^32; libraries and
@@ -72,7 +72,7 @@ enum { PAGE = 4096 };
 #define STATED_START ((uint64_t)1 << 46)
 /* What follows them. In the assembly of stubs it is a number. */
 #define HOOK_PAGE_START 0x500000000000
-/* Fake stacks lie behind that: 2 to the power of so many. */
+/* Fake stacks lie behind that; the shift gives their number. */
 #define FAKE_SLOTS_START UINT64_C(0x510000000000)
 #define FAKE_SLOTS_SHIFT 15
 
@@ -86,10 +86,10 @@ static inline uintptr_t processor_thread(void)
     return thread;
 }
 
-/* Where the block has so many bytes. */
+/* By the size of that block. */
 #define PROCESSOR_THREAD(control_size) processor_thread()
 
-/* Likewise the thread pointer. */
+/* The thread pointer. */
 static inline uintptr_t processor_thread_pointer(void)
 {
     uintptr_t pointer;
@@ -97,8 +97,7 @@ static inline uintptr_t processor_thread_pointer(void)
     return pointer;
 }
 
-/* Likewise from the system, where the thread may have no memory of its own: the number of a call, and of what is asked
-   of it. */
+/* The same from the system, where the thread may have no memory of its own: the number of a call, and its question. */
 #define THREAD_POINTER_BY_SYSTEM(place) system_call3(SYS_arch_prctl, 0x1003 /* ARCH_GET_FS */, (long)(place), 0)
 
 /* The stack pointer of a jmp_buf, which the C library keeps turned and mixed with a secret. */
@@ -143,15 +142,15 @@ static inline size_t processor_vectors_size(uintptr_t vectors)
     return size;
 }
 
-/* What lies below the stack pointer is a leaf function's, for so many bytes. */
+/* The bytes below the stack pointer that a leaf function may use. */
 enum { RED_ZONE = 128 };
 
-/* Where modules' thread-local memory lies, of so many bytes in all, and what the C library keeps of the thread, beside
-   the thread pointer; and which of the words there leads to the memory of modules that came later. */
+/* Where modules' thread-local memory and the C library's notes on the thread lie, of these sizes, beside the thread
+   pointer; and which of the words there leads to the memory of modules that came later. */
 #define LOCAL_START(pointer, local_size, control_size) ((pointer) - (local_size))
 #define LOCAL_END(pointer, local_size, control_size) ((pointer) + (control_size))
 enum { LOCAL_VECTOR_WORD = 1 };
-/* What the C library keeps of a thread has so many bytes, if it does not say how many. */
+/* The size of the C library's notes on a thread, if it does not say it. */
 enum { USUAL_CONTROL_SIZE = 2304 };
 
 /* How many bytes a mutex of the C library's has, as a number for stubs. */
@@ -172,10 +171,10 @@ enum { STORED_FRAME = 120, STORED_STACK = 160, STORED_INSTRUCTION = 168 };
 #define LINK_REGISTER
 #define CODE_ADDRESS(word) (word)
 enum { ADDRESS_BESIDE_FRAME = 0 };
-/* A call has at most so many bytes. */
+/* The bytes of a call, at most. */
 enum { LONGEST_CALL = 7 };
 
-/* How many bytes an instruction has by its second byte, which says where its operand is; so many are there. */
+/* The length of an instruction by its second byte, which says where its operand is; `there` bytes can be read. */
 static inline unsigned length_of(const unsigned char *code, unsigned there)
 {
     enum { SMALL_OFFSET = 1, OFFSET = 2, REGISTER = 3, HAS_INDEX = 4, NO_BASE = 5 };
@@ -209,8 +208,8 @@ enum { RELOCATES_CALL = 7, RELOCATES_SLOT = 6, RELOCATES_WORD = 1, RELOCATES_COP
 
 /* Single instructions. */
 
-/* Adds, and says what was there. With one thread only a signal handler can come between, and none comes between the
-   halves of an instruction. */
+/* Adds, and returns the number before. With one thread only a signal handler can come between, and none comes between
+   the halves of an instruction. */
 #define HAS_ADDITION_ALONE 1
 static inline uint64_t processor_add_alone(_Atomic uint64_t *to, uint64_t step)
 {
@@ -292,7 +291,7 @@ static inline unsigned bytes16_same_text(bytes16 one, bytes16 other)
     return (unsigned)_mm_movemask_epi8(_mm_andnot_si128(is_end, _mm_cmpeq_epi8(one, other)));
 }
 
-/* From so many bytes on the processor's own instruction is the quickest. */
+/* The size from which the processor's own instruction is the quickest. */
 #define MANY_BYTES 512
 static inline void processor_copy_many(void *to, const void *from, size_t size)
 {

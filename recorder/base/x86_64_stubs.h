@@ -27,8 +27,8 @@
     GO_IF_IN("40", "48", tested, check)                                                                                \
     GO_BY_SLOT(real)
 
-/* Goes to the function if the shadow is clean of an object that begins a granule and has so many bytes of shadow bits.
-   That is read for addresses alone, short of the map's end. */
+/* Goes to the function if the shadow is clean of an object that begins a granule and has this many bytes of shadow
+   bits. That is read for addresses alone, short of the map's end. */
 enum { STUBS_SHADOW_START = 0x7fff8000, STUBS_ADDRESS_BITS = 47 };
 #define GO_IF_CLEAN(name, bytes)                                                                                       \
     "\tmovq %rdi, %r11\n"                                                                                              \
@@ -69,7 +69,7 @@ enum { STUBS_SHADOW_START = 0x7fff8000, STUBS_ADDRESS_BITS = 47 };
     "\ttestq %r11, %r11\n"                                                                                             \
     "\tcmoveq " other "@GOTPCREL(%rip), %r11\n"                                                                        \
     "\tjmp *%r11\n"
-/* Goes on at `label` if a function lies in the program, whose code has so many bytes by a variable. */
+/* Continues at `label` if a function lies in the program, the size of whose code is in a variable. */
 #define GO_IF_OF_PROGRAM(name, size, label)                                                                            \
     "\tmovq " name "@GOTPCREL(%rip), %r11\n"                                                                           \
     "\tleaq __ehdr_start(%rip), %r10\n\tsubq %r10, %r11\n\tcmpq " size "(%rip), %r11\n\tjb " label "\n"

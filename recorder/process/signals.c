@@ -126,7 +126,7 @@ static struct met met_by(int number, const siginfo_t *info, const ucontext_t *co
 static void note_last(int number, const struct met *met)
 {
     struct registers now = met->registers;
-    /* A call to where no code is: what lies on top of the stack leads to it, or what is in a register for that. */
+    /* A call to where no code is: the top of the stack leads to it, or the register for that. */
 #if HAS_LINK_REGISTER
     if ((met->how & SIDE_HAS_ADDRESS) && met->address == now.instruction)
         now.instruction = CODE_ADDRESS(now.link) - 1;

@@ -31,7 +31,7 @@ enum {
 };
 
 /* How to go on from an instruction to the caller: the address after its call lies below the end of the frame; if the
-   processor has a register for it, so many words below, or in that if these are none. */
+   processor has a register for it, `address` words below, or in that register if this is 0. */
 struct cfi_rule {
     unsigned char kind, frame, flags, address;
     int32_t offset;

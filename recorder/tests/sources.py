@@ -107,7 +107,7 @@ def check_layers(suite: Suite, folder: str) -> None:
     expect(sorted(left), [], "parts in a cycle of includes")
 
 
-# What is a processor's: assembly, names of registers and of relocations, headers of single processors.
+# What belongs to a processor: assembly, names of registers and of relocations, headers of single processors.
 OF_A_PROCESSOR = re.compile(r"\b(asm|__asm__|__(x86_64|aarch64)__|[eix]mmintrin|arm_neon|R_(X86_64|AARCH64)_\w+"
                             r"|REG_R[A-Z]+|gregs|_mm_\w+|__m128i)\b")
 # Where that stands. platform.h has what any compiler takes; Clang's header is for programs, and the wrapper is a

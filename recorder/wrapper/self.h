@@ -8,7 +8,7 @@ const char *self_path(void);
 char *self_file(const char *name);
 /* Or null, if there is none. */
 char *self_find_file(const char *name);
-/* From now on what is in this folder comes first: what is for another processor. */
+/* From now on files in this folder come first: those for another processor. */
 void self_set_folder(const char *folder);
 
 #endif

@@ -34,15 +34,15 @@ static bool has_any(void)
 }
 
 /* Of Clang's arguments those that choose it. */
-static size_t add_choice(const char **words, char *const *arguments)
+static size_t add_choice(const char **argv, char *const *arguments)
 {
     size_t count = 0;
     for (char *const *it = arguments; *it != NULL; it++)
         if (begins_with(*it, "--target=")) {
-            words[count++] = *it;
+            argv[count++] = *it;
         } else if (strcmp(*it, "-target") == 0 && it[1] != NULL) {
-            words[count++] = *it++;
-            words[count++] = *it;
+            argv[count++] = *it++;
+            argv[count++] = *it;
         }
     return count;
 }
@@ -68,16 +68,16 @@ const struct target *target_of(const struct job *job)
         return NULL;
     while (job->arguments[given] != NULL)
         given++;
-    const char **words = must(calloc(job->command.count + given + 1, sizeof *words));
-    memcpy(words, job->command.items, job->command.count * sizeof *words);
-    chosen = add_choice(words + job->command.count, job->arguments);
+    const char **argv = must(calloc(job->command.count + given + 1, sizeof *argv));
+    memcpy(argv, job->command.items, job->command.count * sizeof *argv);
+    chosen = add_choice(argv + job->command.count, job->arguments);
     struct view program = view_map(job->command.items[0]);
     bool is_here = chosen == 0 && job->command.count == 1 && view_has_constant(program, here, sizeof here);
     view_unmap(program);
     text[0] = 0;
     if (!is_here)
-        compiler_say(words, job->command.count + chosen, "-dumpmachine", text, sizeof text);
-    free(words);
+        compiler_say(argv, job->command.count + chosen, "-dumpmachine", text, sizeof text);
+    free(argv);
     for (size_t i = 0; i < COUNT(targets); i++)
         if (is_machine(text, targets[i].machine))
             return &targets[i];
