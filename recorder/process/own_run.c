@@ -19,8 +19,9 @@
 
 #define PROGRAM "asancol-run"
 
-/* There if the link was asked for it by -fsanitize=address (by_flag.c). */
+/* There if the link was asked for it: by -fsanitize=address (by_flag.c), and by --asancol-run (by_option.c). */
 extern const char asancol_by_flag[] __attribute__((visibility("default"), weak));
+extern const char asancol_by_option[] __attribute__((visibility("default"), weak));
 
 /* Why the program has not become a run of its own; null: nobody wants that. */
 static const char *failure;
@@ -106,6 +107,8 @@ void own_run_begin(void)
 {
     static char self[PATH_MAX];
     const char *wanted = value_of("ASANCOL_RUN");
+    if (wanted == NULL && asancol_by_option != NULL)
+        wanted = "1";
     if (IS_PRELOADED || wanted == NULL || strcmp(wanted, "0") == 0 || beginning.argv == NULL || beginning.is_set_user
         || has_output())
         return;

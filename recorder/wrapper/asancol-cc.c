@@ -62,6 +62,7 @@ int main(int count, char **argv)
     struct own_options own = own_options_take(argv, &called);
     request->is_all = own.is_all;
     request->tests_loops = own.has_loops;
+    request->runs_itself = own.runs_itself;
     job.command = command_of(own.compiler, job.front);
     read_arguments(&job);
     job.takes_part = request->inputs.has_any && request->foreign == NULL;

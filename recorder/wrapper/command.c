@@ -14,6 +14,7 @@
 struct own_options own_options_take(char **argv, const struct called *called)
 {
     static const char all[] = "--asancol-all", compiler[] = "--asancol-compiler=", loops[] = "--asancol-loops";
+    static const char run[] = "--asancol-run";
     const char *setting = getenv("ASANCOL_ALL");
     struct own_options own = {.compiler = called->compiler, .is_all = setting != NULL && strcmp(setting, "1") == 0};
     if (own.compiler == NULL)
@@ -24,6 +25,8 @@ struct own_options own_options_take(char **argv, const struct called *called)
             own.is_all = true;
         else if (strcmp(*word, loops) == 0)
             own.has_loops = true;
+        else if (strcmp(*word, run) == 0)
+            own.runs_itself = true;
         else if (begins_with(*word, compiler))
             own.compiler = *word + strlen(compiler);
         else

@@ -133,8 +133,10 @@ static bool has_checks(const struct request *request)
     return (linked->has_marked && !(is_refused && linked->has_lto)) || (request->inputs.has_compiled && !is_refused);
 }
 
-static void add_static(struct strings *line)
+static void add_static(struct strings *line, const struct job *job)
 {
+    if (job->request.runs_itself)
+        strings_add(line, "-Wl,--undefined=asancol_by_option");
     strings_add(line, "-Wl,--eh-frame-hdr"); /* by which stacks lead through the C library */
     strings_add(line, "-Wl,--undefined=asancol_start");
     strings_add_all(line, shown, COUNT(shown));
@@ -169,6 +171,8 @@ static void add_to_program(struct strings *line, const struct job *job)
     }
     if (has_start(link) && job->request.asks_for_address)
         strings_add(line, "-Wl,--undefined=asancol_by_flag");
+    if (has_start(link) && job->request.runs_itself)
+        strings_add(line, "-Wl,--undefined=asancol_by_option");
     add_file(line, "libasancol_record.a");
     if (link->has_libc)
         strings_add(line, "-lc"); /* for what the recorder calls */
@@ -184,7 +188,7 @@ void linking_add_after(struct strings *line, const struct job *job)
     if (has_checks(&job->request))
         strings_add(line, "-Wl,--undefined=asancol_checks");
     if (linking_is_static(link)) {
-        add_static(line);
+        add_static(line, job);
         return;
     }
     bool has_libm = link->has_libm || (job->front->links_libm && !link->is_bare);

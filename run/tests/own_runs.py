@@ -1,4 +1,4 @@
-"""A program that becomes its own run, by ASANCOL_RUN."""
+"""A program that becomes its own run, by ASANCOL_RUN or by --asancol-run at its link."""
 
 import os
 import signal
@@ -66,6 +66,16 @@ def check_static(suite: Suite, folder: str) -> None:
     expect_ran(run_alone(suite, make(folder, "-static"), "x"), 99, "heap-buffer-overflow: store of 1 byte")
 
 
+def check_linked(suite: Suite, folder: str) -> None:
+    """One that was linked for it needs no variable, which turns it off; under another run it is that one's."""
+    folders = f"{os.path.dirname(RUN)}:{os.environ['PATH']}"
+    for flags in ((), ("-static",)):
+        program = make(folder, "--asancol-run", *flags)
+        expect_ran(run_alone(suite, program, "x", ASANCOL_RUN="", PATH=folders), 99, PAST, "1 process, ")
+        expect_ran(run_alone(suite, program, "x", ASANCOL_RUN="0", PATH=folders), 0, absent=["asancol"])
+        expect_ran(suite.run("--", program, "x", ASANCOL_REPORT=REPORT, PATH=folders), 99, PAST, "1 process, ")
+
+
 def check_ended(suite: Suite, folder: str) -> None:
     """Whoever ends it ends what it runs."""
     program = make(folder)
@@ -92,6 +102,6 @@ def check_terminal(suite: Suite, folder: str) -> None:
 def tests(suite: Suite) -> None:
     for name, run in (
         ("statuses", check_statuses), ("without asancol-run", check_without), ("static", check_static),
-        ("ended", check_ended), ("on a terminal", check_terminal),
+        ("linked", check_linked), ("ended", check_ended), ("on a terminal", check_terminal),
     ):
         suite.test(f"own run: {name}", run)
