@@ -366,7 +366,9 @@ static int look_for_mathematics(struct dl_phdr_info *module, size_t size, void *
     /* A call that comes between these is not checked. */
     volatile struct code_range *noted = &hook_page->mathematics;
     noted->size = 0;
+    __atomic_thread_fence(__ATOMIC_RELEASE);
     noted->start = range.start;
+    __atomic_thread_fence(__ATOMIC_RELEASE);
     noted->size = range.size;
     system_mprotect(hook_page, sizeof *hook_page, PROT_READ);
     return 0;
