@@ -74,24 +74,24 @@ static void scope(void)
 
 static void copies(void)
 {
-    char *block = malloc(10);
-    memcpy(block, "0123456789ab", ten + 1); /* copies */
-    free(block);
+    kept = malloc(10);
+    memcpy(kept, "0123456789ab", ten + 1); /* copies */
+    free(kept);
 }
 
 static void prints(void)
 {
-    char *block = malloc(10);
-    snprintf(block, ten + 5, "%d and %s", 123456, "more"); /* prints */
-    free(block);
+    kept = malloc(10);
+    snprintf(kept, ten + 5, "%d and %s", 123456, "more"); /* prints */
+    free(kept);
 }
 
 static void compares(void)
 {
-    char *block = malloc(10);
-    memset(block, 'a', 10);
-    number_of(strncmp(block, "aaaaaaaaaaaaaaa", ten + 4)); /* compares */
-    free(block);
+    kept = malloc(10);
+    memset(kept, 'a', 10);
+    number_of(strncmp(kept, "aaaaaaaaaaaaaaa", ten + 4)); /* compares */
+    free(kept);
 }
 
 static void *in_thread(void *block)

@@ -19,7 +19,8 @@ SAVED = {"ASANCOL_TRACE": "t.trace", "ASANCOL_WHERE": "1"}
 
 BY_SANITIZER = re.compile(r"ERROR: AddressSanitizer: (?:attempting )?([\w-]+)(?: on address| on unknown)?[^\n]*\n"
                           r"(?:(?! +#).*\n)*(?: +#\d.*\n)*? +#\d+ 0x\w+ in (\w+) \S*arm\.c:(\d+)")
-BY_ASANCOL = re.compile(r"ERROR: asancol: ([\w-]+)[^\n]*\n(?: +#\d.*\n)*? +#\d+ 0x\w+ in (\w+) \S*arm\.c:(\d+)")
+BY_ASANCOL = re.compile(r"ERROR: asancol: (?:attempting )?([\w-]+)[^\n]*\n"
+                        r"(?: +#\d.*\n)*? +#\d+ 0x\w+ in (\w+) \S*arm\.c:(\d+)")
 
 
 class Said(NamedTuple):
@@ -32,9 +33,10 @@ class Said(NamedTuple):
 
 def first_of(pattern: "re.Pattern[str]", text: str) -> Optional[Said]:
     found = pattern.search(text)
-    # AddressSanitizer's words for a free are a sentence.
-    return Said(found[1].replace("free", "bad-free") if found[1] == "free" else found[1], found[2], int(found[3])) \
-        if found else None
+    if not found:
+        return None
+    # "attempting free on address which was not malloc()-ed"
+    return Said("bad-free" if found[1] == "free" else found[1], found[2], int(found[3]))
 
 
 def line_of(word: str) -> int:
