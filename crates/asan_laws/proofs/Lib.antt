@@ -32,3 +32,4 @@ mod RunShown
 mod StatedBlocks
 mod Known
 mod NewSegment
+mod Reasons

@@ -4,3 +4,4 @@ pub mod Snapshots
 pub mod Recording
 pub mod Runs
 pub mod LeanRecording
+pub mod Classes

@@ -13,11 +13,16 @@ ghost use Rattle.trace_record.specs.Shades.{shade_size, shade_kind};
 ghost use Rattle.shadow_map.specs.States.{Mark, AreMarks, code_of, state_of, lift};
 ghost use Rattle.heap_book.specs.Spans.{Extent, span_from, span_to, meets};
 ghost use Rattle.asan_units.specs.Units.{granule_of, granule_size, first_byte, round_up};
+ghost use Rattle.asan_check.specs.declared.report.Class.{Class};
 ghost use Rattle.asan_check.specs.declared.report.Class.TheVariants as class;
+ghost use Rattle.asan_check.specs.declared.report.Fault.TheVariants as fault;
 ghost use Rattle.asan_check.specs.declared.report.Report.{Report};
 ghost use Rattle.asan_check.specs.Codes.{Freed, class_of_code, code_of_kind};
 ghost use Rattle.asan_check.specs.History.{live, held, marks};
-ghost use Rattle.asan_check.specs.Verdicts.{fault_of, is_access, verdict, verdicts, verdicts_of};
+ghost use Rattle.asan_check.specs.Verdicts.{access_fault, fault_of, is_access, verdict, verdicts};
+ghost use Rattle.asan_check.specs.Verdicts.{verdicts_of};
+ghost use Rattle.asan_laws.specs.Classes.{IsTrueOf};
+ghost use Rattle.shadow_map.specs.Causes.{deciding_granule};
 ghost use Rattle.asan_laws.specs.Thinning.{LeaveTheSame, LeavesOutGood, IsSublist, faults_of};
 ghost use Rattle.asan_laws.specs.Thinning.{renumbered, thinned, one_later, LeavesOut};
 ghost use Rattle.asan_laws.specs.Thinning.{LeavesOutGoodOnes, EventsLeftOutAreGood, faults_on};
@@ -111,6 +116,19 @@ pub fn poison_is_reported()
         verdict bound past (access_event is_store access)
         ≡ Some (first_byte_report past is_store access
         (class_of_code (code_of_kind (shade_kind poison))) (code_of_kind (shade_kind poison))) }
+{}
+
+/// The class of a report on a load or a store is true of the byte that decides, after every
+/// history: a heap buffer overflow is in a redzone, of a live block, of a held one, or of what was
+/// released; a use after free is at the bytes of a held block, or at those that round its size up;
+/// and a class of poison is of a byte that a poison of its kind covers last.
+pub fn the_class_of_a_report_is_true()
+    ensures { (bound : ℕ) (past : List Event) (is_store : Bool) (access : Access)
+        (bad : ℕ) (said : Class) (shadow : ℕ) →
+        access_fault (state_of (marks bound past)) is_store access
+        ≡ Some (fault.Access is_store access.width access.at bad said shadow) →
+        IsTrueOf bound past
+        (first_byte (deciding_granule (state_of (marks bound past)) access.at)) said }
 {}
 
 /// Every mark of a history, with whatever bound on the quarantine, is one that a call may make. So

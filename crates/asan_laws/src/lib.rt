@@ -14,10 +14,10 @@ pub use laws::{
     each_way_to_leave_out_is_a_test_of_numbers, held_since_its_free, later_faults_are_the_same,
     later_reports_are_the_same, live_since_its_malloc, marks_are_only_added,
     marks_of_a_history_are_marks, overflow_is_reported, poison_is_reported,
-    quiet_inside_live_block, reports_are_verdicts, spans_never_meet, the_same_is_left_again,
-    the_same_stands_again, thinned_events_invent_nothing, thinned_events_lose_nothing_bad,
-    thinning_invents_nothing, thinning_loses_nothing_bad, use_after_free_is_reported,
-    what_is_in_a_snapshot_stands_the_same,
+    quiet_inside_live_block, reports_are_verdicts, spans_never_meet, the_class_of_a_report_is_true,
+    the_same_is_left_again, the_same_stands_again, thinned_events_invent_nothing,
+    thinned_events_lose_nothing_bad, thinning_invents_nothing, thinning_loses_nothing_bad,
+    use_after_free_is_reported, what_is_in_a_snapshot_stands_the_same,
 };
 pub use lean_recording::{
     a_free_looks_at_its_address, a_full_recording_is_a_lean_one,
