@@ -124,7 +124,7 @@ def too_many(habits: List[Finding]) -> Iterator[Finding]:
 def findings(files: List[str]) -> Iterator[Finding]:
     """Goes over the old words in the files, those in the names of files, and the habits of pages and comments."""
     for_users: List[str] = []
-    in_comments: List[str] = []
+    in_comments: List[Tuple[str, int, str]] = []
     for path in files:
         if NAMES.search(path) and not PROVED.match(path):
             yield path, 1, "an old word in its name: tests/words.py has the new ones"
