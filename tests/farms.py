@@ -5,7 +5,8 @@ report.
 usage: tests/farms.py [--list] [--junit FILE] ASANCOL [WORD..]
 
 With words, only recipes whose names have one of them. A recipe whose tool is not there is left out, and a line says so.
-Each runs in a copy of the folder `project`. The page docs/FARMS.md has to have the commands of each.
+Each runs in a copy of the folder `project`. The page docs/FARMS.md has to have the commands of each. And projects come
+from AddressSanitizer by changing the compiler alone (switching.py).
 """
 
 import contextlib
@@ -24,6 +25,7 @@ from typing import Callable, Dict, Iterator, List, NamedTuple, Sequence, Set, Tu
 
 sys.path.insert(0, f"{os.path.dirname(os.path.realpath(__file__))}/..")  # where `testing` is
 
+import switching
 from testing import TOP, Failure, LeftOut, Suite, expect, expect_in, suite, wait_until, write_text
 from testing.programs import REPORT, ran_of, run
 
@@ -363,7 +365,8 @@ class Farm(Suite):
         if not find("pytest") and find("pytest-3"):
             os.symlink(find("pytest-3"), f"{programs}/pytest")
         self.settings = {
-            "PATH": f"{programs}:{TOP}/recorder:{TOP}/run:{TOP}/report:{os.environ.get('PATH', os.defpath)}",
+            "PATH": ":".join([programs, *(f"{TOP}/{it}" for it in ("recorder", "recorder/cargo", "run", "report")),
+                              os.environ.get("PATH", os.defpath)]),
             "ASANCOL": asancol,
             "ASANCOL_REPORT": REPORT,
         }
@@ -372,6 +375,7 @@ class Farm(Suite):
             name = recipe.script.split(".")[0]
             self.test(f"page: {name}", check_page, recipe)
             self.test(f"recipe: {name}", check_recipe, recipe)
+        switching.add_tests(self, self.settings)
 
     def clean_up(self) -> None:
         shutil.rmtree(self.folder, ignore_errors=True)
