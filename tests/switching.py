@@ -39,7 +39,7 @@ class Job(NamedTuple):
     wanted: Said
     tools: Tuple[str, ...]
     real: Dict[str, str]  # the compilers with AddressSanitizer
-    changed: Dict[str, str]  # what is changed to come over
+    changed: Dict[str, str]  # the settings that differ afterwards
     has_logs: bool = True
 
 
@@ -132,7 +132,7 @@ def classes_in(logs: List[str]) -> List[str]:
 
 
 def say(job: Job, folder: str, compilers: Dict[str, str], settings: Dict[str, str]) -> Tuple[Said, List[str], str]:
-    """What a job says in a copy of the project, and what is in its logs; and what it has printed."""
+    """The findings of a job in a copy of the project, with those in its logs; and its output."""
     shutil.copytree(PROJECT, folder)
     options = OPTIONS if job.has_logs else {}
     ran = run(["sh", "-c", job.script], folder, **settings, **options, **compilers)
