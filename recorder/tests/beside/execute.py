@@ -17,7 +17,7 @@ import signal
 import subprocess
 import sys
 import threading
-from typing import Any, Dict, Iterator, List, NamedTuple, Optional, Sequence, Tuple
+from typing import Any, Dict, Iterator, List, NamedTuple, Optional, Sequence, Set, Tuple
 
 TESTS = os.path.dirname(os.path.dirname(os.path.realpath(__file__)))
 if __name__ == "__main__":
@@ -36,18 +36,23 @@ MOST = 1 << 20
 
 NOT_BUILT = "does not build"
 
-# Options of AddressSanitizer with which its first report stays the same.
-HARMLESS = {
-    "abort_on_error", "alloc_dealloc_mismatch", "allocator_may_return_null=0", "atexit", "coverage", "coverage_dir",
-    "coverage_direct", "detect_leaks", "detect_stack_use_after_return", "exitcode", "external_symbolizer_path",
-    "fast_unwind_on_fatal", "fast_unwind_on_malloc", "halt_on_error", "handle_abort=1", "handle_segv=1",
-    "handle_segv=2", "handle_sigbus=1", "handle_sigfpe=1", "handle_sigill=1", "heap_profile", "help",
-    "malloc_context_size", "max_uar_stack_size_log", "min_uar_stack_size_log", "new_delete_type_mismatch=1",
-    "poison_array_cookie=1", "poison_heap=1", "print_cmdline", "print_module_map",
-    "print_scariness", "print_stats", "print_summary", "redzone", "report_globals=1", "report_globals=2",
-    "sleep_after_init", "sleep_before_dying", "strict_string_checks=0", "strict_string_checks=false",
-    "suppress_equal_pcs", "symbolize", "use_sigaltstack=1", "verbosity",
-}
+# Options of AddressSanitizer with which its first report stays the same, beside those that asancol takes and those on
+# which no report depends, by the table of its page.
+OTHERS = {"abort_on_error", "coverage", "coverage_direct", "poison_array_cookie=1", "redzone", "report_globals=2"}
+SPELLED = {"0": ("0", "false"), "1": ("1", "true")}
+
+
+def held_options(table: str) -> Set[str]:
+    """The options of the table with which asancol does as AddressSanitizer does: some with each value, the others with
+    the one that holds."""
+    found = set(OTHERS)
+    for name, fate, value in re.findall(r'^OPTION\((\w+), (\w+), "([^"]*)"', table, re.M):
+        found |= {f"{name}={it}" for it in SPELLED.get(value, (value,))} if fate == "FIXED" else {name}
+    return found
+
+
+with open(f"{TOP}/common/asan_options.def", encoding="utf-8") as options_table:
+    HARMLESS = held_options(options_table.read())
 
 
 # With this one it also finds uses after return, for which a recorded program has to be compiled.
@@ -136,7 +141,7 @@ def report_by_asancol(path: str) -> Optional[Report]:
         return Report("incomplete: there is no result", "")
     with open(path, encoding="utf-8") as file:
         entries: List[Dict[str, Any]] = [json.loads(line) for line in file]
-    findings = [it for it in entries if it["type"] == "finding"]
+    findings = [it for it in entries if it["type"] == "finding" and "suppressed" not in it]
     if findings:
         it = min(findings, key=moment)
         return Report(it["class"], *(line_of(it.get(name, [])) for name in ("stack", "allocated", "freed")))
@@ -228,7 +233,8 @@ def with_text(errors: str, notes: str) -> str:
 
 def main() -> int:
     way, notes, *argv = sys.argv[1:]
-    done = execute(way, argv, ".", notes, None)
+    options = {it: os.environ[it] for it in ("ASAN_OPTIONS", "LSAN_OPTIONS") if it in os.environ}
+    done = execute(way, argv, ".", notes, None, **options)
     with open(f"{notes}/executions", "a", encoding="utf-8") as file:
         file.write(f"{json.dumps(done)}\n")
     with open(f"{notes}/errors", "rb") as errors:
