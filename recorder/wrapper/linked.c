@@ -183,6 +183,12 @@ static bool is_in_code(struct view view, const Elf64_Sym *symbol)
            && (view_section(view, number).sh_flags & SHF_EXECINSTR) != 0;
 }
 
+/* Whether a name is one by which an assembler for ARM says where code begins, and where data in code. */
+static bool is_mapping(const char *name)
+{
+    return name[0] == '$' && (name[1] == 'x' || name[1] == 'd') && (name[2] == 0 || name[2] == '.');
+}
+
 static void count_symbols(struct parts *parts, struct view view, const Elf64_Shdr *section)
 {
     struct view table = view_of_section(view, section), texts = view_texts(view, section->sh_link);
@@ -199,7 +205,7 @@ static void count_symbols(struct parts *parts, struct view view, const Elf64_Shd
         if (is_name && !parts->has_own_names)
             parts->has_own_names = strstr(name, RUST_OWN) == NULL;
         parts->has_assembly |= type == STT_NOTYPE && name[0] != 0 && strncmp(name, ".L", 2) != 0
-                               && is_in_code(view, &it);
+                               && !is_mapping(name) && is_in_code(view, &it);
         parts->has_variables |= is_defined && (type == STT_OBJECT || type == STT_TLS);
     }
 }
