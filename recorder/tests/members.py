@@ -131,7 +131,8 @@ def check_late(suite: Suite, folder: str, compiler: Compiler) -> None:
 
 
 def check_links(suite: Suite, folder: str, compiler: Compiler) -> None:
-    """A link of objects runs the compiler once, and asks it nothing before."""
+    """A link of objects runs the compiler once, and asks it nothing before. If the library for another processor is
+    there, a script is asked for its own."""
     write(folder, calls_c=CALLS, opens_c=OPENS, weak_c=WEAK)
     write(folder, counts_sh=f'#!/bin/sh\necho "$*" >> {folder}/runs\nexec {compiler.name} "$@"\n')
     os.chmod(f"{folder}/counts.sh", 0o755)
@@ -139,7 +140,7 @@ def check_links(suite: Suite, folder: str, compiler: Compiler) -> None:
         compiler.c(folder, ["-c", f"{name}.c"], f"{name}.o", "-fno-builtin")
         build([CC, f"{name}.o", "-o", name], folder, ASANCOL_CC=f"{folder}/counts.sh")
         with open(f"{folder}/runs", encoding="utf-8") as file:
-            expect(len(file.readlines()), wanted, name)
+            expect(len([it for it in file if it != "-dumpmachine\n"]), wanted, name)
         os.unlink(f"{folder}/runs")
 
 
