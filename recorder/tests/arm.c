@@ -1,4 +1,5 @@
-/* Bugs for another processor (arm.py): each is named by the argument, and its line has the word. */
+/* Bugs for another processor (arm.py): each is named by the argument, and its line has the word. None is a call at the
+   end of its function, which a jump may stand for. */
 #include <pthread.h>
 #include <signal.h>
 #include <stdio.h>
@@ -43,12 +44,14 @@ static void twice(void)
     kept = malloc(10);
     free(kept);
     free(kept); /* twice */
+    kept = NULL;
 }
 
 static void bad(void)
 {
     kept = malloc(10);
     free(kept + ten / 5); /* bad */
+    kept = NULL;
 }
 
 static void stack(void)

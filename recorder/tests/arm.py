@@ -85,8 +85,9 @@ def make_sanitized(folder: str, level: str) -> None:
 
 
 def check_readme(suite: Suite, folder: str, library: str) -> None:
-    """The report of README.md's first screen, of a program for another processor."""
-    compile_recorded(folder, [f"{TOP}/examples/bug.c"], f"{folder}/bug")
+    """The report of README.md's first screen, of a program for another processor, which is compiled and then linked."""
+    compile_recorded(folder, [f"{TOP}/examples/bug.c"], "bug.o", "-c")
+    compile_recorded(folder, ["bug.o"], "bug")
     ran = run([RUN, "--", *QEMU, "./bug", "Alice"], folder, ASANCOL=suite.asancol)
     text = ran.stderr.decode()
     for part in ("ERROR: asancol: heap-buffer-overflow: store of 6 bytes in strcpy\n", " in main ", "bug.c:6:12\n",
@@ -113,7 +114,7 @@ def check_others(suite: Suite, folder: str, program: str) -> None:
     """A leak, for which AddressSanitizer needs ptrace; a null pointer; and a program that does nothing wrong."""
     ran = run([RUN, "--leaks=yes", "--", *QEMU, program, "leak"], folder, ASANCOL=suite.asancol)
     text = ran.stderr.decode()
-    expect(("10 bytes" in text, "in leak " in text, ran.returncode), (True, True, 99), text)
+    expect(("Direct leak of 10 byte(s)" in text, "in leak " in text, ran.returncode), (True, True, 99), text)
     ran = run([RUN, "--", *QEMU, program, "null"], folder, ASANCOL=suite.asancol)
     text = ran.stderr.decode()
     expect((f"arm.c:{line_of('null')}" in text, "store" in text), (True, True), text)
