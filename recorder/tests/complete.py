@@ -617,7 +617,7 @@ def check_settings(suite: Suite, folder: str, program: str) -> None:
         ({"ASANCOL_WHERE": "yes"}, ["ASANCOL_WHERE: yes is not a number from 0 to 1, and 0 holds"]),
         ({"ASANCOL_LIMIT": "0"}, ["ASANCOL_LIMIT: 0 is not a number from 1 to 16777216, and 16777216 holds"]),
         ({"ASANCOL_SEGMENTS": "1001"}, ["ASANCOL_SEGMENTS: 1001 is not a number from 0 to 1000, and all are kept"]),
-        ({"ASANCOL_LIMIT": "99999999999999999999"}, ["ASANCOL_LIMIT: 99999999999999999999 is no number"]),
+        ({"ASANCOL_LIMIT": "99999999999999999999"}, ["ASANCOL_LIMIT: 99999999999999999999 is not a number"]),
         ({"ASANCOL_QUARANTINE": "1M"}, ["ASANCOL_QUARANTINE: 1M is not a number from 0 to 1099511627776"]),
         ({"ASANCOL_PATIENCE": "-1"}, ["ASANCOL_PATIENCE: -1 is not a number from 0 to 86400, and 60 holds"]),
         ({"ASANCOL_WHERE": "", "ASANCOL_LIMIT": "", "ASANCOL_LOG": ""}, ()),
