@@ -79,7 +79,7 @@ MISTAKES = [
      "--quarantine B: asancol-run has no group Checking"),
     ("Group of asancol-report: Text\n", "", "--no-machines: no program has it"),
     (", asancol-report: Output files", ": Output files", "--json FILE: asancol-report has no such option"),
-    ("Help: where all lines go", "# ", "--log-file FILE: it has no Help or no Page for asancol-run"),
+    ("Help: write all lines here", "# ", "--log-file FILE: it has no Help or no Page for asancol-run"),
     ("Help: print a line for each process", f"Help: {'x' * 54}",
      "asancol-run: its help has 44 lines of at most 44, and 1 too wide"),
 ]
