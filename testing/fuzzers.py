@@ -55,7 +55,8 @@ ENDS = [b"closed events 2 offset 36 reports 1", b"no-memory checked 5 reports 1"
 
 TARGETS = [
     Target("recorder: settings",
-           [f"{OURS}/settings.c", f"{RECORDER}/process/settings.c", f"{RECORDER}/process/asan_options.c"], ENVIRONMENT,
+           [f"{OURS}/settings.c", *(f"{RECORDER}/environment/{it}.c" for it in ("settings", "asan_options"))],
+           ENVIRONMENT,
            [b"ASANCOL_", b"TRACE=", b"QUARANTINE=", b"SOCKET=", b"HUB=", b"%p", b"%%"]),
     Target("recorder: formats", [f"{OURS}/formats.c"], FORMATS, [b"%", b"*", b"hh", b"ll", b"%[", b"^]", b"%1$d"]),
     Target("recorder: frames", [f"{OURS}/frames.c", f"{RECORDER}/stacks/frames.c"],
@@ -116,8 +117,8 @@ SHARED = [
     Target("thread notes", [f"{OURS}/thread_notes.c", f"{RECORDER}/stacks/thread_notes.c"], []),
     Target("stream, and what stands beside it",
            [f"{OURS}/races.c",
-            *(f"{RECORDER}/{it}.c" for it in ("base/descriptors", "base/errors", "base/memory", "process/asking",
-                                              "process/hub_names", "shadow/globals", "shadow/shadow",
+            *(f"{RECORDER}/{it}.c" for it in ("base/descriptors", "base/errors", "base/memory", "environment/asking",
+                                              "environment/hub_names", "shadow/globals", "shadow/shadow",
                                               "stacks/stacks", "stacks/thread_notes", "stacks/walks")),
             *(f"{RECORDER}/stream/{it}.c" for it in (
                 *STREAM, "fault_list", "faults", "findings", "lists", "maps", "modules", "record", "side", "stating",

@@ -169,7 +169,7 @@ def sample_is_printed(program: str) -> None:
 
 def settings_are_there(_: str) -> None:
     """Each variable and option that the recorder and the wrappers read is in the page of the wrappers."""
-    sources = text_of("recorder/process/settings.c") + text_of("recorder/wrapper/fronts.def")
+    sources = text_of("recorder/environment/settings.c") + text_of("recorder/wrapper/fronts.def")
     known = set(re.findall(r'"(ASANCOL_\w+)"', sources))
     of_run = {"ASANCOL_REPORT", "ASANCOL_SYMBOLIZER", "ASANCOL_OUTER"}
     page = set(re.findall(r"ASANCOL_\w+", text_of("recorder/man/asancol-cc.1")))

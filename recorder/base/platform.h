@@ -32,4 +32,11 @@
 #define TOP_ASM __asm__
 #define DESCRIBE __asm__ volatile
 
+/* Whether this is the preloaded recorder, for programs that were not built with asancol-cc. */
+#ifdef IS_PRELOAD
+enum { IS_PRELOADED = 1 };
+#else
+enum { IS_PRELOADED = 0 };
+#endif
+
 #endif

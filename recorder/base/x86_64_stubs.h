@@ -120,7 +120,7 @@ enum { STUBS_SHADOW_START = 0x7fff8000, STUBS_ADDRESS_BITS = 47 };
 #define BEFORE_END_OF_HANDLER "\tnop\n"
 #define END_OF_HANDLER "\tmovq $15, %rax\n\tsyscall\n"
 
-/* Goes where a way leads (process/exports.c); or asks first, with the way: all arguments are in these registers. */
+/* Goes where a way leads (start/exports.c); or asks first, with the way: all arguments are in these registers. */
 #define GO_ASKING(label, way) "\tleaq " way "(%rip), %r11\n\tjmp " label "\n"
 #define ASK_AND_GO(function)                                                                                           \
     KEEP("rdi") KEEP("rsi") KEEP("rdx") KEEP("rcx") KEEP("r8")                                                         \

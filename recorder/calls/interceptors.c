@@ -7,7 +7,7 @@
 
    One member of the library, that comes in only if it is asked for. */
 #include "base/processor_stubs.h"
-#include "calls/library.h"
+#include "libc/library.h"
 #include "shadow/mapping.h"
 
 #define BEGIN(name)                                                                                                    \

@@ -5,7 +5,7 @@
 #include <stdatomic.h>
 #include <stdlib.h>
 
-#include "calls/library.h"
+#include "libc/library.h"
 #include "calls/stubs.h"
 #include "interface/hooks.h"
 #include "stacks/cfi.h"

@@ -7,7 +7,7 @@
 #include <stddef.h>
 
 #include "base/processor_stubs.h"
-#include "calls/hook_page.h"
+#include "libc/hook_page.h"
 #include "shadow/shadow.h"
 
 #define TEXT_OF(word) #word

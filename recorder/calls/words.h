@@ -60,7 +60,7 @@
 #include <utmpx.h>
 #include <wordexp.h>
 
-#include "calls/library.h"
+#include "libc/library.h"
 #include "calls/calls.h"
 #include "calls/rows.h"
 #include "interface/hooks.h"

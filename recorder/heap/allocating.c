@@ -7,7 +7,7 @@
 #include <sys/mman.h>
 
 #include "base/own_code.h"
-#include "calls/library.h"
+#include "libc/library.h"
 #include "heap/central.h"
 #include "heap/entering.h"
 #include "heap/families.h"

@@ -8,7 +8,7 @@
 #include <malloc.h>
 #include <stdio.h>
 
-#include "calls/library.h"
+#include "libc/library.h"
 #include "base/digits.h"
 #include "heap/heap.h"
 #include "base/platform.h"

@@ -28,7 +28,7 @@
 
 #include "base/own_code.h"
 #include "base/system.h"
-#include "calls/library.h"
+#include "libc/library.h"
 
 /* For how many units notes are asked for: they then fill whole pages. */
 enum { NOTE_STEP = REGION_UNITS };

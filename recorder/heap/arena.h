@@ -12,7 +12,7 @@
 
 #include "common/format.h"
 #include "base/platform.h"
-#include "heap/family.h"
+#include "libc/family.h"
 #include "stacks/stacks.h"
 
 enum { UNIT = 1 << 16, MIN_SLOT_SIZE = 2 * REDZONE, SLOTS = UNIT / MIN_SLOT_SIZE, ALIGNMENT = 16 };
@@ -64,11 +64,6 @@ struct block {
 
 enum block_state { BLOCK_FREE, BLOCK_LIVE, BLOCK_HELD, BLOCK_UNRECORDED };
 #define BLOCK_SETTLED UINT64_MAX
-
-/* Where a block was allocated and freed; 0 if it is not known, or not freed. */
-struct call_sites {
-    call_site allocated, freed;
-};
 
 enum unit_kind { UNIT_NEW, UNIT_SLAB, UNIT_RUN, UNIT_RUN_BODY, UNIT_FREE, UNIT_FREE_END };
 
@@ -252,17 +247,9 @@ bool arena_give_back(void);
 /* Looks at the clock, and gives back what has waited for a period. */
 void arena_look_at_clock(void);
 
-/* The block that is nearest to an address, and not far from it. */
-struct nearest {
-    uintptr_t start;
-    uint64_t size;
-    struct call_sites call_sites;
-    enum family family;
-    bool is_forgotten; /* its notes are gone: it had at most this many bytes, or nothing is known if it has no start */
-};
-
-/* Without a lock, at any time: the notes may change meanwhile, and then what it answers is of no use. False: no block
-   is near, and none was there. */
+struct nearest; /* stream/near.h */
+/* The block that is nearest to an address, and not far from it. Without a lock, at any time: the notes may change
+   meanwhile, and then what it answers is of no use. False: no block is near, and none was there. */
 bool arena_find_nearest(uintptr_t address, struct nearest *found);
 /* The same for the block in whose slot or run an address is, live or held, and where it begins. */
 bool arena_find_around(uintptr_t address, struct block *block, uintptr_t *start);

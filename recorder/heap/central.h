@@ -2,7 +2,7 @@
 #ifndef ASANCOL_CENTRAL_H
 #define ASANCOL_CENTRAL_H
 
-#include "calls/library.h"
+#include "libc/library.h"
 #include "heap/blocks.h"
 
 /* A thread that is alone takes no lock. A jump from under it would leave it taken, so that counts as a change. */

@@ -6,7 +6,7 @@
 
 #include "base/platform.h"
 #include "base/system.h"
-#include "calls/library.h"
+#include "libc/library.h"
 #include "heap/freeing.h"
 #include "heap/heap.h"
 #include "heap/shards.h"

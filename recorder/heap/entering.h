@@ -6,7 +6,7 @@
 
 #include <stdbool.h>
 
-#include "calls/library.h"
+#include "libc/library.h"
 #include "heap/blocks.h"
 
 struct deferred;

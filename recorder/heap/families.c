@@ -7,9 +7,9 @@
 #include <string.h>
 
 #include "base/memory.h"
-#include "calls/library.h"
+#include "libc/library.h"
 #include "heap/blocks.h"
-#include "process/link_note.h"
+#include "environment/link_note.h"
 #include "stream/findings.h"
 #include "stream/maps.h"
 

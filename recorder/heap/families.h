@@ -8,7 +8,7 @@
 #include <stdint.h>
 
 #include "heap/arena.h"
-#include "heap/family.h"
+#include "libc/family.h"
 
 /* How a block is freed. */
 struct release {

@@ -2,7 +2,7 @@
 
 #include <errno.h>
 
-#include "calls/library.h"
+#include "libc/library.h"
 #include "heap/families.h"
 #include "heap/paint.h"
 #include "heap/poisoning.h"

@@ -7,7 +7,7 @@
 #include <stdint.h>
 
 #include "base/platform.h"
-#include "heap/family.h"
+#include "libc/family.h"
 
 /* How many bytes of freed spans are held from now on. */
 void heap_set_bound(uint64_t bytes);

@@ -7,7 +7,7 @@
 #include <stdint.h>
 
 #include "heap/arena.h"
-#include "heap/family.h"
+#include "libc/family.h"
 #include "stacks/stacks.h"
 
 /* What it is for. */

@@ -4,7 +4,7 @@
 #include <sys/mman.h>
 
 #include "base/system.h"
-#include "calls/library.h"
+#include "libc/library.h"
 #include "heap/central.h"
 #include "heap/placing.h"
 #include "heap/poisoning.h"

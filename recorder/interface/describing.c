@@ -9,13 +9,14 @@
 #include "base/digits.h"
 #include "base/memory.h"
 #include "base/system.h"
-#include "calls/library.h"
+#include "libc/library.h"
 #include "heap/arena.h"
 #include "shadow/globals.h"
 #include "shadow/shadow.h"
 #include "stacks/frames.h"
 #include "stacks/own_stack.h"
 #include "stacks/thread_notes.h"
+#include "stream/near.h"
 
 /* Texts. */
 

@@ -2,8 +2,8 @@
 #define _GNU_SOURCE
 #include "interface/hooks.h"
 
-#include "calls/library.h"
-#include "calls/plain.h"
+#include "libc/library.h"
+#include "process/plain.h"
 #include "shadow/globals.h"
 #include "heap/heap.h"
 #include "interface/init_order.h"

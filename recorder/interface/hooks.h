@@ -8,7 +8,7 @@
 #include <stddef.h>
 #include <stdint.h>
 
-#include "calls/hook_page.h"
+#include "libc/hook_page.h"
 #include "process/becoming.h"
 #include "process/halt.h"
 #include "heap/heap.h"

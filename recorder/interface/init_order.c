@@ -5,7 +5,7 @@
 #include <stdbool.h>
 
 #include "process/process.h"
-#include "process/settings.h"
+#include "environment/settings.h"
 #include "shadow/globals.h"
 #include "shadow/shadow.h"
 #include "stream/state.h"

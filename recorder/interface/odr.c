@@ -13,10 +13,10 @@
 #include <stddef.h>
 #include <string.h>
 
-#include "calls/library.h"
-#include "calls/objects.h"
+#include "libc/library.h"
+#include "libc/objects.h"
 #include "process/process.h"
-#include "process/settings.h"
+#include "environment/settings.h"
 #include "shadow/globals.h"
 #include "shadow/shadow.h"
 #include "stream/findings.h"

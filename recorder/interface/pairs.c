@@ -6,11 +6,12 @@
 #include "heap/arena.h"
 #include "heap/blocks.h"
 #include "process/process.h"
-#include "process/settings.h"
+#include "environment/settings.h"
 #include "shadow/globals.h"
 #include "shadow/shadow.h"
 #include "stacks/own_stack.h"
 #include "stream/findings.h"
+#include "stream/near.h"
 
 enum { NULLS_ARE_GOOD = 1 };
 /* Up to this many bytes apart, two pointers are of one object if all between them is addressable. */

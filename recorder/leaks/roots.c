@@ -8,7 +8,7 @@
 #include "base/memory.h"
 #include "base/own_zeros.h"
 #include "base/platform.h"
-#include "calls/library.h"
+#include "libc/library.h"
 #include "heap/blocks.h"
 #include "heap/heap.h"
 #include "leaks/marking.h"

@@ -13,7 +13,7 @@
 #include "base/disturbance.h"
 #include "base/platform.h"
 #include "base/system.h"
-#include "process/other_threads.h"
+#include "environment/other_threads.h"
 
 /* The state of a thread that was asked to stop. `context` is released by the thread, once it has stopped. */
 struct slot {

@@ -20,7 +20,7 @@
 
 #include "out/plugin/made_for.h"
 #include "plugin/plugin.h"
-#include "process/link_note.h"
+#include "environment/link_note.h"
 
 #define SHOWN __attribute__((visibility("default")))
 

@@ -6,9 +6,9 @@
 #include <stddef.h>
 #include <string.h>
 
-#include "calls/library.h"
-#include "calls/objects.h"
-#include "process/link_note.h"
+#include "libc/library.h"
+#include "libc/objects.h"
+#include "environment/link_note.h"
 #include "shadow/mapping.h"
 #include "stream/maps.h"
 

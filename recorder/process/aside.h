@@ -18,11 +18,9 @@ struct exported {
 };
 
 #ifdef IS_PRELOAD
-enum { IS_PRELOADED = true };
 /* Decided at the first call. */
 bool aside_is_own(void);
 #else
-enum { IS_PRELOADED = false };
 static inline bool aside_is_own(void)
 {
     return true;

@@ -9,16 +9,16 @@
 #include <unistd.h>
 
 #include "process/built.h"
-#include "calls/library.h"
+#include "libc/library.h"
 #include "base/digits.h"
 #include "base/self.h"
 #include "process/given.h"
-#include "process/hub_names.h"
+#include "environment/hub_names.h"
 #include "process/process.h"
 #include "stream/side.h"
 #include "stream/state.h"
 #include "base/system.h"
-#include "process/unseen.h"
+#include "environment/unseen.h"
 
 /* So much of the name that a descriptor has is shown. */
 enum { SHOWN_ROOM = 256 };

@@ -8,7 +8,7 @@
 #include <stddef.h>
 #include <stdint.h>
 
-#include "process/link_note.h"
+#include "environment/link_note.h"
 #include "base/system.h"
 
 /* A program's head with its segments, or the first line of a script. What has more is looked at no further. */

@@ -5,10 +5,10 @@
 #include <stdlib.h>
 #include <sys/auxv.h>
 
-#include "process/beginning.h"
-#include "process/hub_names.h"
-#include "process/orphan.h"
-#include "process/unseen.h"
+#include "environment/beginning.h"
+#include "environment/hub_names.h"
+#include "environment/orphan.h"
+#include "environment/unseen.h"
 
 #define NO_RECORDER ", which was built by asancol-cc, and was not built so itself"
 #define OTHER_RELEASE ", which was built by asancol-cc of another release: build both with one"

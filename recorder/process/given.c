@@ -2,7 +2,7 @@
 
 #include "base/memory.h"
 #include "base/platform.h"
-#include "process/beginning.h"
+#include "environment/beginning.h"
 #include "shadow/mapping.h"
 #include "shadow/shadow.h"
 #include "stacks/own_stack.h"

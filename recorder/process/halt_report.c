@@ -15,11 +15,12 @@
 #include "base/disturbance.h"
 #include "base/memory.h"
 #include "base/system.h"
-#include "calls/library.h"
+#include "libc/library.h"
 #include "heap/arena.h"
 #include "shadow/shadow.h"
 #include "stacks/stacks.h"
 #include "stacks/thread_notes.h"
+#include "stream/near.h"
 
 /* An address has at least this many digits, as in AddressSanitizer. */
 enum { ADDRESS_DIGITS = 12 };

@@ -14,8 +14,8 @@
 #include "base/say.h"
 #include "base/system.h"
 #include "process/aside.h"
-#include "process/beginning.h"
-#include "process/orphan.h"
+#include "environment/beginning.h"
+#include "environment/orphan.h"
 
 #define PROGRAM "asancol-run"
 

@@ -10,10 +10,10 @@
 #include "base/disturbance.h"
 #include "base/memory.h"
 #include "base/own_code.h"
+#include "base/processor_stubs.h"
 #include "base/self.h"
 #include "base/system.h"
-#include "calls/library.h"
-#include "calls/stubs.h"
+#include "libc/library.h"
 #include "process/process.h"
 #include "process/signal_stack.h"
 #include "shadow/mapping.h"
@@ -306,7 +306,7 @@ void signals_handle(void)
 #ifdef IS_STATIC
 extern int real_sigaction(int, const struct sigaction *, struct sigaction *) NAMED("__sigaction");
 #else
-REAL(int, sigaction, (int, const struct sigaction *, struct sigaction *));
+extern int real_sigaction(int, const struct sigaction *, struct sigaction *) __asm__("__real_sigaction");
 #endif
 
 /* The action set in place of the program's. */

@@ -13,9 +13,9 @@
 #include <threads.h>
 #include <unwind.h>
 
-#include "process/beginning.h"
+#include "environment/beginning.h"
 #include "process/signal_stack.h"
-#include "calls/library.h"
+#include "libc/library.h"
 #include "heap/heap.h"
 #include "base/behind.h"
 #include "base/own_code.h"

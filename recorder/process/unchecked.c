@@ -6,15 +6,15 @@
 #include <stdlib.h>
 #include <string.h>
 
-#include "calls/library.h"
-#include "calls/plain.h"
+#include "libc/library.h"
+#include "process/plain.h"
 #include "base/digits.h"
 #include "common/format.h"
 #include "common/text.h"
 #include "heap/blocks.h"
 #include "heap/heap.h"
-#include "process/asan_options.h"
-#include "process/link_note.h"
+#include "environment/asan_options.h"
+#include "environment/link_note.h"
 #include "process/process.h"
 #include "base/memory.h"
 #include "base/platform.h"

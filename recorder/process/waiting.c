@@ -5,7 +5,7 @@
 
 #include "base/disturbance.h"
 #include "base/self.h"
-#include "calls/plain.h"
+#include "process/plain.h"
 #include "heap/heap.h"
 #include "process/aside.h"
 #include "process/process.h"

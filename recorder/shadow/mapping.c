@@ -15,10 +15,10 @@
 #include "shadow/shadow.h"
 
 #ifndef IN_SHARED_OBJECT
-#include "calls/library.h"
-#include "process/orphan.h"
-#include "process/settings.h"
-#include "process/unseen.h"
+#include "libc/library.h"
+#include "environment/orphan.h"
+#include "environment/settings.h"
+#include "environment/unseen.h"
 
 extern const struct recorder_hooks asancol_hooks;
 #endif

@@ -19,7 +19,7 @@
 #include <stdint.h>
 
 #include "base/platform.h"
-#include "calls/hook_page.h"
+#include "libc/hook_page.h"
 #include "common/format.h"
 
 /* Where the maps lie is a matter of the processor (processor.h): in the place of AddressSanitizer's, the allocator's

@@ -6,7 +6,7 @@
 #include <stddef.h>
 #include <string.h>
 
-#include "calls/library.h"
+#include "libc/library.h"
 #include "base/memory.h"
 #include "shadow/mapping.h"
 

@@ -5,7 +5,7 @@
 
 #include "base/platform.h"
 #include "base/system.h"
-#include "process/beginning.h"
+#include "environment/beginning.h"
 
 /* The first thread's stack reaches so far down. */
 enum { DEFAULT_STACK_SIZE = 8 << 20 };

@@ -11,6 +11,11 @@
    has the number of the thread that made the call (thread_notes.h). 0: not known. */
 typedef uint64_t call_site;
 
+/* Where a block was allocated and freed; 0 if it is not known, or not freed. */
+struct call_sites {
+    call_site allocated, freed;
+};
+
 /* Before the first call site. */
 void stacks_begin(void);
 /* The call site from which we came to `caller`, with the calls that led there (unwinding.h). At any time, and

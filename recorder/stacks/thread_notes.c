@@ -3,7 +3,7 @@
 
 #include "base/platform.h"
 #include "base/system.h"
-#include "calls/library.h"
+#include "libc/library.h"
 
 _Thread_local struct own_notes own_notes = {.number = THREAD_UNKNOWN};
 

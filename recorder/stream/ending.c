@@ -3,7 +3,7 @@
 #include "base/disturbance.h"
 #include "base/say.h"
 #include "base/self.h"
-#include "process/other_threads.h"
+#include "environment/other_threads.h"
 #include "stream/growing.h"
 #include "stream/holes.h"
 #include "stream/left_out.h"

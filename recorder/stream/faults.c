@@ -6,7 +6,6 @@
 
 #include "base/memory.h"
 #include "base/platform.h"
-#include "heap/arena.h"
 #include "shadow/globals.h"
 #include "shadow/shadow.h"
 #include "stacks/frames.h"

@@ -1,7 +1,7 @@
 #define _GNU_SOURCE
 #include "stream/holes.h"
 
-#include "calls/library.h"
+#include "libc/library.h"
 #include "stream/locked.h"
 #include "stream/writing.h"
 

@@ -14,7 +14,7 @@
 #include "base/memory.h"
 #include "base/platform.h"
 #include "base/system.h"
-#include "process/link_note.h"
+#include "environment/link_note.h"
 #include "shadow/unused.h"
 #include "stream/state.h"
 

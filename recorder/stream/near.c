@@ -6,8 +6,8 @@
 #include "base/digits.h"
 #include "base/memory.h"
 #include "base/platform.h"
-#include "heap/arena.h"
 #include "shadow/globals.h"
+#include "stream/state.h"
 
 /* Adds to a name. False: it does not fit, and nothing is added. */
 static bool add(char *name, const char *text)
@@ -156,7 +156,7 @@ bool near_array(uint64_t address, struct side_fault *fault)
 void near_block(struct list *list, uint64_t address, struct side_fault *fault)
 {
     struct nearest block;
-    if (!arena_find_nearest(address, &block))
+    if (!above.find_nearest(address, &block))
         return;
     fault->variable = block.is_forgotten ? VARIABLE_FORGOTTEN : VARIABLE_NONE;
     if (!block.is_forgotten && family_name(block.family) != NULL && fault->name[0] == 0)

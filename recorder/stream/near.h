@@ -2,9 +2,20 @@
 #ifndef ASANCOL_NEAR_H
 #define ASANCOL_NEAR_H
 
+#include "libc/family.h"
 #include "shadow/globals.h"
 #include "stacks/frames.h"
+#include "stacks/stacks.h"
 #include "stream/lists.h"
+
+/* The block that is nearest to an address, and not far from it, as the allocator finds it (arena_find_nearest). */
+struct nearest {
+    uintptr_t start;
+    uint64_t size;
+    struct call_sites call_sites;
+    enum family family;
+    bool is_forgotten; /* its notes are gone: it had at most this many bytes, or nothing is known if it has no start */
+};
 
 void near_block(struct list *list, uint64_t address, struct side_fault *fault);
 void near_global(uint64_t address, struct side_fault *fault);

@@ -4,7 +4,7 @@
 
 #include <stdbool.h>
 
-#include "process/settings.h"
+#include "environment/settings.h"
 #include "stream/output.h"
 
 /* Opens the output, writes the header, and turns the stream on. False: one line said why not. No other thread is in the

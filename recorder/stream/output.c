@@ -15,8 +15,8 @@
 #include "base/disturbance.h"
 #include "base/errors.h"
 #include "common/format.h"
-#include "process/asking.h"
-#include "process/hub_names.h"
+#include "environment/asking.h"
+#include "environment/hub_names.h"
 #include "base/platform.h"
 #include "base/system.h"
 

@@ -3,7 +3,7 @@
 
 #include <string.h>
 
-#include "process/settings.h"
+#include "environment/settings.h"
 #include "base/platform.h"
 #include "base/system.h"
 

@@ -8,7 +8,7 @@
 
 #include "base/self.h"
 #include "base/system.h"
-#include "calls/library.h"
+#include "libc/library.h"
 #include "stream/holes.h"
 #include "stream/locked.h"
 #include "stream/losing.h"

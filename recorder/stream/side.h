@@ -9,7 +9,7 @@
 
 #include "base/platform.h"
 #include "common/format.h"
-#include "process/settings.h"
+#include "environment/settings.h"
 
 /* Begins a new one in these bytes, which are zeros, with who the process is, how many segments of it came before, and
    what its settings are. */

@@ -18,7 +18,7 @@
 
 #include "base/platform.h"
 #include "common/format.h"
-#include "process/settings.h"
+#include "environment/settings.h"
 #include "stream/access.h"
 #include "stream/telling.h"
 
@@ -117,6 +117,8 @@ enum stating { STATING_DONE, STATING_FRAME, STATING_NOT_NEEDED, STATING_AGAIN };
    may be in the middle of a change, and no other thread is; or another one may be. */
 enum holding { HEAP_LOCKED, HEAP_INTERRUPTED, HEAP_AT_LOCK };
 
+struct nearest;
+
 /* What the stream needs of what stands on it: the allocator, and the process. */
 struct above {
     void (*lock_heap)(void);
@@ -141,6 +143,8 @@ struct above {
     void (*list_unchecked)(char *list, const char *maps);
     /* What else that list is made of: it is another number if the list may be another one. */
     uint64_t (*unchecked_state)(void);
+    /* The block nearest to an address (heap/arena.h). */
+    bool (*find_nearest)(uintptr_t address, struct nearest *found);
     /* Whether an address in a block is in this frame or above it, on the same stack. */
     bool (*has_frame)(uintptr_t frame, uintptr_t address);
     /* Whether it is on the thread's own stack, and on no other that lies in an array there. */

@@ -14,7 +14,7 @@
 #include <stdint.h>
 
 #include "base/platform.h"
-#include "calls/library.h"
+#include "libc/library.h"
 #include "common/format.h"
 #include "stream/state.h"
 

@@ -35,7 +35,7 @@ def check_own_names(suite, folder, compiler):
     """A program may have every name that the recorder has for itself."""
     others = (f"{RECORDER}/tests/", f"{RECORDER}/out/")
     sources = [it for it in glob.glob(f"{RECORDER}/**/*.c", recursive=True) if not it.startswith(others)]
-    sources.remove(f"{RECORDER}/base/own.c")  # where the C library is a part of the program it calls these itself
+    sources.remove(f"{RECORDER}/libc/own.c")  # where the C library is a part of the program it calls these itself
     names = set()
     for source in sources:
         names |= set(re.findall(r"^(?:[\w ]+[ *])(\w+)\([^;]*\)$", open(source).read(), re.M))

@@ -25,14 +25,14 @@ SAFE = {"__libc_single_threaded", "__libc_stack_end", "environment", "_dl_find_o
 
 # Not in a handler: the start of the process, its threads, its end, and the calls of the program that are wrapped or
 # replaced.
-ELSEWHERE = ("process/settings.o", "process/asan_options.o", "process/threads.o", "calls/", "heap/allocation.o",
-             "base/own.o")
+ELSEWHERE = ("environment/settings.o", "environment/asan_options.o", "process/threads.o", "process/plain.o", "calls/",
+             "libc/", "heap/allocation.o")
 AT_THE_START_OR_END = {
     "interface/odr.o": {"dlsym", "dlvsym", "dlerror"},
     "leaks/leaks.o": {"dl_iterate_phdr"},
     "leaks/roots.o": {"dl_iterate_phdr", "_dl_get_tls_static_info", "_thread_db_sizeof_pthread"},
     "process/process.o": {"__register_atfork"},
-    "process/start.o": {"__cxa_atexit", "__cxa_at_quick_exit", "_IO_flush_all"},
+    "start/start.o": {"__cxa_atexit", "__cxa_at_quick_exit", "_IO_flush_all"},
     "process/unchecked.o": {"dlerror", "dlsym"},
 }
 
@@ -82,12 +82,18 @@ def check_handlers(suite: Suite, folder: str) -> None:
     expect(list(unsafe_names()), [], "not to be called in a signal handler")
 
 
+def folders_from_below() -> List[str]:
+    """Returns the folders of sources in their order, which README.md has."""
+    with open(f"{RECORDER}/README.md", encoding="utf-8") as file:
+        return re.findall(r"^\| `(\w+)` \|", file.read(), re.M)
+
+
 def parts_with_includes() -> Dict[str, Set[str]]:
     """Returns for each part, a header with its source, the parts that it includes."""
     found: Dict[str, Set[str]] = {}
     for path in glob.glob(f"{RECORDER}/*/*.[ch]"):
         part = os.path.relpath(path, RECORDER)[:-2]
-        if not part.startswith(("tests/", "wrapper/", "out/")):
+        if not part.startswith(("tests/", "out/")):
             with open(path, encoding="utf-8") as file:
                 included = re.findall(r'^ *#include "(\w+/\w+)\.h"', file.read(), re.M)
             found.setdefault(part, set()).update(it for it in included if it != part)
@@ -95,9 +101,14 @@ def parts_with_includes() -> Dict[str, Set[str]]:
 
 
 def check_layers(suite: Suite, folder: str) -> None:
-    """No part includes itself by others: lower layers call higher ones by a table (stream/state.h)."""
-    left = parts_with_includes()
+    """No folder includes one above it, and no part itself by others: lower layers call higher ones by a table
+    (stream/state.h)."""
+    order, left = folders_from_below(), parts_with_includes()
     expect(len(left) > 50, True, "parts")
+    expect({part.partition("/")[0] for part in left} - set(order), set(), "folders without a place")
+    at = {part: order.index(part.partition("/")[0]) for part in left}
+    expect([f"{part} {it}" for part in sorted(left) for it in sorted(left[part]) if at.get(it, 0) > at[part]], [],
+           "includes upward")
     while True:
         low = [part for part, included in left.items() if not included & left.keys()]
         if not low:

@@ -14,7 +14,9 @@
 #include "wrapper/compiling.h"
 #include "wrapper/running.h"
 #include "wrapper/say.h"
+#include "wrapper/use_after_return.h"
 #include "wrapper/self.h"
+#include "wrapper/target.h"
 
 /* Of the compiler's arguments those that are options of it, as -m32, come before the caller's. */
 static void read_arguments(struct job *job)

@@ -6,7 +6,12 @@
 #include <stddef.h>
 
 #include "wrapper/left_out.h"
-#include "wrapper/use_after_return.h"
+
+/* Whether accesses to variables of functions that have returned are to be found (use_after_return.h). */
+enum use_after_return { USE_AFTER_RETURN_NEVER, USE_AFTER_RETURN_RUNTIME, USE_AFTER_RETURN_ALWAYS, USES_AFTER_RETURN };
+/* Clang's word, and what follows GCC's `--param`. */
+#define USE_AFTER_RETURN_OF_CLANG "-fsanitize-address-use-after-return="
+#define USE_AFTER_RETURN_OF_GCC "asan-use-after-return="
 
 /* Where the shadow begins, at the end of a flag: another processor has it elsewhere (target.h). */
 #define SHADOW_HERE "0x7fff8000"

@@ -14,6 +14,7 @@
 #include "wrapper/plugin.h"
 #include "wrapper/say.h"
 #include "wrapper/self.h"
+#include "wrapper/target.h"
 
 /* The compiler notes its switches in the object, by which the link finds such objects (linked.c). */
 #define NOTE_SWITCHES "-frecord-gcc-switches"

@@ -6,7 +6,8 @@
 #include "wrapper/compilers.h"
 #include "wrapper/fronts.h"
 #include "wrapper/request.h"
-#include "wrapper/target.h"
+
+struct target;
 
 struct job {
     const struct front *front;

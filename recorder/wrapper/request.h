@@ -4,10 +4,10 @@
 
 #include <stdbool.h>
 
+#include "wrapper/compilers.h"
 #include "wrapper/left_out.h"
 #include "wrapper/linked.h"
 #include "wrapper/names.h"
-#include "wrapper/use_after_return.h"
 
 /* The files. */
 struct inputs {

@@ -11,7 +11,7 @@
 
 #include "common/array.h"
 #include "common/text.h"
-#include "process/link_note.h"
+#include "environment/link_note.h"
 #include "wrapper/archive.h"
 #include "wrapper/say.h"
 

@@ -117,7 +117,7 @@ int main(int count, char **argv) {
 #ifdef OTHER_RELEASE
 #include <sys/mman.h>
 static __attribute__((constructor)) void change(void) {
-    unsigned long *release = (unsigned long *)0x500000000000; /* recorder/calls/hook_page.h */
+    unsigned long *release = (unsigned long *)0x500000000000; /* recorder/libc/hook_page.h */
     if (mprotect(release, 4096, PROT_READ | PROT_WRITE) == 0)
         ++*release;
 }

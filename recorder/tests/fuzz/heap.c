@@ -19,7 +19,7 @@
 #include <unistd.h>
 
 #include "base/system.h"
-#include "calls/library.h"
+#include "libc/library.h"
 #include "heap/families.h"
 #include "heap/blocks.h"
 #include "heap/book.h"

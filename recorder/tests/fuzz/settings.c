@@ -7,8 +7,8 @@
 #include "base/say.c"
 #undef recorder_say
 #include "common/format.h"
-#include "process/beginning.h"
-#include "process/settings.h"
+#include "environment/beginning.h"
+#include "environment/settings.h"
 
 struct beginning beginning;
 

@@ -11,7 +11,7 @@
 #include <string.h>
 #include <sys/time.h>
 
-#include "calls/library.h"
+#include "libc/library.h"
 #include "shadow/mapping.h"
 #include "stacks/own_stack.h"
 #include "stacks/unwinding.h"

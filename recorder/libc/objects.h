@@ -8,7 +8,7 @@
 #include <stddef.h>
 #include <stdint.h>
 
-#include "calls/hook_page.h"
+#include "libc/hook_page.h"
 
 struct dl_phdr_info;
 

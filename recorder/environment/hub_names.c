@@ -1,5 +1,5 @@
 #define _GNU_SOURCE
-#include "process/hub_names.h"
+#include "environment/hub_names.h"
 
 #include "base/digits.h"
 

@@ -1,5 +1,5 @@
 #define _GNU_SOURCE
-#include "process/ancestors.h"
+#include "environment/ancestors.h"
 
 #include <fcntl.h>
 #include <stddef.h>
@@ -7,7 +7,7 @@
 
 #include "base/digits.h"
 #include "base/system.h"
-#include "process/hub_names.h"
+#include "environment/hub_names.h"
 
 enum { PIECE = 4096, HUB_ROOM = 128, PATH_ROOM = 48, MOST_ABOVE = 64 };
 

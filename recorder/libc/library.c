@@ -1,5 +1,5 @@
 #define _GNU_SOURCE
-#include "calls/library.h"
+#include "libc/library.h"
 
 #include <link.h>
 
@@ -63,9 +63,9 @@ uint64_t library_generation(void)
 #include <string.h>
 #include <sys/mman.h>
 
-#include "calls/objects.h"
-#include "process/beginning.h"
-#include "process/other_threads.h"
+#include "libc/objects.h"
+#include "environment/beginning.h"
+#include "environment/other_threads.h"
 #include "base/system.h"
 
 /* Until they are found. */

@@ -1,13 +1,13 @@
 #define _GNU_SOURCE
-#include "process/unseen.h"
+#include "environment/unseen.h"
 
 #include <errno.h>
 #include <fcntl.h>
 
-#include "process/asking.h"
-#include "process/beginning.h"
+#include "environment/asking.h"
+#include "environment/beginning.h"
 #include "base/digits.h"
-#include "process/hub_names.h"
+#include "environment/hub_names.h"
 #include "base/system.h"
 
 /* What a mark says is short. */

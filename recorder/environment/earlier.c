@@ -1,5 +1,5 @@
 #define _GNU_SOURCE
-#include "process/earlier.h"
+#include "environment/earlier.h"
 
 #include <fcntl.h>
 #include <string.h>

@@ -1,5 +1,5 @@
 #define _GNU_SOURCE
-#include "process/asking.h"
+#include "environment/asking.h"
 
 #include <errno.h>
 #include <string.h>

@@ -10,7 +10,7 @@
 #include <wchar.h>
 
 #include "base/platform.h"
-#include "calls/library.h"
+#include "libc/library.h"
 
 #ifndef IS_STATIC
 

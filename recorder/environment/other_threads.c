@@ -1,6 +1,6 @@
 /* Which threads a process has, by what the system says: the recorder does not see each of them begin and end. */
 #define _GNU_SOURCE
-#include "process/other_threads.h"
+#include "environment/other_threads.h"
 
 #include <dirent.h>
 #include <errno.h>

@@ -1,19 +1,20 @@
 /* The recorder's start, and the ends of the process that it asks the C library for. */
 #define _GNU_SOURCE
-#include "process/start.h"
+#include "start/start.h"
 
 #include <stddef.h>
 
 #include "base/disturbance.h"
 #include "base/self.h"
-#include "calls/library.h"
+#include "libc/library.h"
+#include "heap/arena.h"
 #include "heap/book.h"
 #include "heap/heap.h"
 #include "interface/interface.h"
 #include "interface/reports.h"
 #include "leaks/leaks.h"
 #include "process/aside.h"
-#include "process/beginning.h"
+#include "environment/beginning.h"
 #include "process/halt.h"
 #include "process/own_run.h"
 #include "process/process.h"
@@ -141,6 +142,7 @@ const struct above above = {
     .poisons_in_heap = heap_is_poisoned,
     .state_access = book_state_access,
     .state_free = book_state_free,
+    .find_nearest = arena_find_nearest,
     .start = start_if_ready,
     .say_child = recorder_say_child,
     .list_unchecked = unchecked_list,

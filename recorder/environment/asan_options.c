@@ -1,4 +1,4 @@
-#include "process/asan_options.h"
+#include "environment/asan_options.h"
 
 #include "base/platform.h"
 

@@ -1,16 +1,16 @@
 /* The first call into an object: of a program by first.c, of a shared object when it is loaded. A preloaded one comes
    before all others (-z initfirst). */
-#include "process/early.h"
+#include "start/early.h"
 
 #include <stddef.h>
 
-#include "process/beginning.h"
+#include "environment/beginning.h"
 #ifdef IN_SHARED_OBJECT
 #include "shadow/mapping.h"
 #else
-#include "calls/plain.h"
+#include "process/plain.h"
 #include "process/aside.h"
-#include "process/start.h"
+#include "start/start.h"
 #endif
 
 /* Of the checks, if something has them (registering.c). */

@@ -8,7 +8,7 @@
 
    The loader's lock is held while slots are looked at (dl_iterate_phdr). It guards the `static` variables here. */
 #define _GNU_SOURCE
-#include "calls/plain.h"
+#include "process/plain.h"
 
 #include <dlfcn.h>
 #include <errno.h>
@@ -17,15 +17,15 @@
 #include <string.h>
 #include <sys/mman.h>
 
-#include "calls/library.h"
-#include "calls/objects.h"
+#include "libc/library.h"
+#include "libc/objects.h"
 #include "base/platform.h"
 #include "base/processor_stubs.h"
 #include "base/system.h"
 #include "common/text.h"
 #include "heap/heap.h"
 #include "process/aside.h"
-#include "process/link_note.h"
+#include "environment/link_note.h"
 #include "process/process.h"
 #include "process/threads.h"
 #include "shadow/mapping.h"
@@ -132,7 +132,7 @@ __attribute__((used)) static struct answer answer_dlvsym(void *where, const char
 }
 
 #ifdef IS_PRELOAD
-#define STUB_OF(name) "asancol_instead_" name /* called from the first moment on (process/exports.c) */
+#define STUB_OF(name) "asancol_instead_" name /* called from the first moment on (start/exports.c) */
 #else
 #define STUB_OF(name) "asancol_plain_" name
 #endif

@@ -1,5 +1,5 @@
 /* The room for the note of a link. The wrapper of the compiler writes there once the linker has ended. */
-#include "process/link_note.h"
+#include "environment/link_note.h"
 
 extern const struct link_note asancol_link_note;
 

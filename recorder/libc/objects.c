@@ -1,5 +1,5 @@
 #define _GNU_SOURCE
-#include "calls/objects.h"
+#include "libc/objects.h"
 
 #include <link.h>
 #include <string.h>

@@ -1,5 +1,5 @@
 #define _GNU_SOURCE
-#include "process/orphan.h"
+#include "environment/orphan.h"
 
 #include <errno.h>
 #include <fcntl.h>
@@ -8,16 +8,16 @@
 #include <string.h>
 #include <sys/prctl.h>
 
-#include "process/ancestors.h"
-#include "process/asking.h"
-#include "process/beginning.h"
+#include "environment/ancestors.h"
+#include "environment/asking.h"
+#include "environment/beginning.h"
 #include "base/digits.h"
 #include "base/platform.h"
 #include "common/hub_name.h"
 #include "common/inherited.h"
 #include "base/system.h"
-#include "process/hub_names.h"
-#include "process/unseen.h"
+#include "environment/hub_names.h"
+#include "environment/unseen.h"
 
 /* As long as the name of a socket is. */
 enum { NAME_ROOM = 109, PIECE = 4096 };

@@ -1,4 +1,4 @@
-#include "process/beginning.h"
+#include "environment/beginning.h"
 
 #include <elf.h>
 #include <stddef.h>

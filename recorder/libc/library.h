@@ -12,7 +12,7 @@
 #include <wchar.h>
 
 #include "base/platform.h"
-#include "calls/hook_page.h"
+#include "libc/hook_page.h"
 
 struct dl_find_object;
 struct dl_phdr_info;

@@ -1,18 +1,18 @@
 #define _GNU_SOURCE
-#include "process/settings.h"
+#include "environment/settings.h"
 
 #include <limits.h>
 #include <string.h>
 
-#include "process/asan_options.h"
-#include "process/beginning.h"
+#include "environment/asan_options.h"
+#include "environment/beginning.h"
 #include "base/digits.h"
 #include "base/platform.h"
 #include "common/distance.h"
 #include "common/format.h"
 #include "base/say.h"
 #include "base/system.h"
-#include "process/orphan.h"
+#include "environment/orphan.h"
 
 /* What libFuzzer and others call is a target, which ends at its first fault unless it is told not to. */
 extern int LLVMFuzzerTestOneInput(const unsigned char *, size_t) __attribute__((weak));

@@ -1,5 +1,5 @@
 #define _GNU_SOURCE
-#include "process/first.h"
+#include "start/first.h"
 
 #include <elf.h>
 #include <stdbool.h>
@@ -7,9 +7,9 @@
 #include <stdint.h>
 
 #include "process/becoming.h"
-#include "process/beginning.h"
-#include "process/hub_names.h"
-#include "process/unseen.h"
+#include "environment/beginning.h"
+#include "environment/hub_names.h"
+#include "environment/unseen.h"
 
 extern void *__libc_stack_end;
 extern const Elf64_Ehdr __ehdr_start __attribute__((visibility("hidden")));
