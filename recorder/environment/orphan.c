@@ -10,14 +10,14 @@
 
 #include "environment/ancestors.h"
 #include "environment/asking.h"
-#include "environment/beginning.h"
+#include "environment/startup.h"
 #include "base/digits.h"
 #include "base/platform.h"
 #include "common/hub_name.h"
 #include "common/inherited.h"
 #include "base/system.h"
 #include "environment/hub_names.h"
-#include "environment/unseen.h"
+#include "environment/hub_word.h"
 
 /* As long as the name of a socket is. */
 enum { NAME_ROOM = 109, PIECE = 4096 };
@@ -135,9 +135,9 @@ static bool look_for_run(take_run *take, const char *why)
 /* A process with more rights than who has started it makes nothing where that one likes. */
 static bool leave_word(const char *hub, const char *why)
 {
-    if (beginning.is_set_user)
-        return unseen_tell(hub, why);
-    unseen_note(hub, why);
+    if (startup.is_set_user)
+        return hub_word_tell(hub, why);
+    hub_word_note(hub, why);
     return true;
 }
 
@@ -176,7 +176,7 @@ static bool take_settings(const char *hub, const char *why)
 
 void orphan_ask(void)
 {
-    if (beginning.is_set_user)
+    if (startup.is_set_user)
         given.in_the_way = "it is set-user-ID or set-group-ID, so it ignores its settings";
     else
         look_for_run(take_settings, NULL);

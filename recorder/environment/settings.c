@@ -5,7 +5,7 @@
 #include <string.h>
 
 #include "environment/asan_options.h"
-#include "environment/beginning.h"
+#include "environment/startup.h"
 #include "base/digits.h"
 #include "base/platform.h"
 #include "common/distance.h"
@@ -72,7 +72,7 @@ static void say_unknown(const char *name, size_t length)
 
 static void look_for_unknown(void)
 {
-    for (char **entry = beginning.variables; entry != NULL && *entry != NULL; entry++) {
+    for (char **entry = startup.variables; entry != NULL && *entry != NULL; entry++) {
         size_t length = strcspn(*entry, "=");
         if (strncmp(*entry, PREFIX, strlen(PREFIX)) == 0 && !is_known(*entry, length))
             say_unknown(*entry, length);
@@ -83,7 +83,7 @@ static void look_for_unknown(void)
 static const char *value_of(const char *name)
 {
     size_t length = strlen(name);
-    for (char **entry = beginning.variables; !beginning.is_set_user && entry != NULL && *entry != NULL; entry++)
+    for (char **entry = startup.variables; !startup.is_set_user && entry != NULL && *entry != NULL; entry++)
         if (strncmp(*entry, name, length) == 0 && (*entry)[length] == '=' && (*entry)[length + 1] != 0)
             return *entry + length + 1;
     return orphan_value(name);
@@ -182,7 +182,7 @@ static const char *name_from_root(const char *name, struct entry *entry)
     if (!add(text, room, name) || !add(text, room, "=") || (is_relative && !add_folder(text, room))
         || !add(text, room, value))
         return value; /* it is too long for a file's name */
-    for (char **at = beginning.variables; is_relative && *at != NULL; at++)
+    for (char **at = startup.variables; is_relative && *at != NULL; at++)
         if (strncmp(*at, text, strlen(name) + 1) == 0)
             *at = text;
     return text + strlen(name) + 1;
@@ -262,7 +262,7 @@ void settings_read(struct settings *settings)
 {
     static AS_TABLE struct entry log;
     say_to(name_from_root("ASANCOL_LOG", &log));
-    if (!beginning.is_set_user)
+    if (!startup.is_set_user)
         look_for_unknown();
     read_outputs(settings);
     settings->stop = number_of("ASANCOL_STOP", 1, EVENT_LIMIT, 0);

@@ -10,7 +10,7 @@
 #include <stdbool.h>
 
 #include "base/platform.h"
-#include "process/waiting.h"
+#include "process/preload_wait.h"
 
 #if defined IN_SHARED_OBJECT
 #define CALLBACK /* hidden: each shared object calls its own */

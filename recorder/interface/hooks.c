@@ -16,7 +16,7 @@
 #include "process/process.h"
 #include "process/signals.h"
 #include "process/unchecked.h"
-#include "process/waiting.h"
+#include "process/preload_wait.h"
 #include "stacks/fake_stack.h"
 #include "stacks/unwinding.h"
 #include "stream/thread_list.h"

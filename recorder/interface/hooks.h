@@ -9,7 +9,7 @@
 #include <stdint.h>
 
 #include "libc/hook_page.h"
-#include "process/becoming.h"
+#include "process/exec_notice.h"
 #include "process/halt.h"
 #include "heap/heap.h"
 #include "process/process.h"

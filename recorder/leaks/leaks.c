@@ -22,7 +22,7 @@
 #include "leaks/marking.h"
 #include "leaks/roots.h"
 #include "leaks/world.h"
-#include "environment/beginning.h"
+#include "environment/startup.h"
 #include "stream/findings.h"
 #include "stream/side.h"
 #include "stream/state.h"
@@ -127,7 +127,7 @@ static bool look_from(uintptr_t frame)
     }
     side_note_leaks_missed(search.why != NULL);
     if (search.why != NULL)
-        recorder_say("leaks are not looked for: ", beginning_name(), search.why);
+        recorder_say("leaks are not looked for: ", startup_name(), search.why);
     note(&search.lost);
     bool has_found = search.lost.count != 0;
     lost_forget(&search.lost);

@@ -64,7 +64,7 @@ uint64_t library_generation(void)
 #include <sys/mman.h>
 
 #include "libc/objects.h"
-#include "environment/beginning.h"
+#include "environment/startup.h"
 #include "environment/other_threads.h"
 #include "base/system.h"
 
@@ -342,7 +342,7 @@ static int look_at(struct dl_phdr_info *module, size_t size, void *of)
 #endif
     if (range_has(range, (uintptr_t)library.vsnprintf))
         hook_page->library = range;
-    if (range_has(range, beginning.system_code))
+    if (range_has(range, startup.system_code))
         hook_page->system = range;
     if (object_is_named(module->dlpi_name, "libm.so"))
         hook_page->mathematics = range;

@@ -5,10 +5,10 @@
 #include <stdlib.h>
 #include <sys/auxv.h>
 
-#include "environment/beginning.h"
+#include "environment/startup.h"
 #include "environment/hub_names.h"
 #include "environment/orphan.h"
-#include "environment/unseen.h"
+#include "environment/hub_word.h"
 
 #define NO_RECORDER ", which was built by asancol-cc, and was not built so itself"
 #define OTHER_RELEASE ", which was built by asancol-cc of another release: build both with one"
@@ -27,13 +27,13 @@ void foreign_note(bool has_another)
     joined_add(&joined, "it loaded ", sizeof why);
     joined_add(&joined, is_named ? object.dli_fname : "a library", MAX_NAME_LENGTH);
     joined_add(&joined, has_another ? OTHER_RELEASE : NO_RECORDER, sizeof why);
-    beginning.is_set_user = getauxval(AT_SECURE);
+    startup.is_set_user = getauxval(AT_SECURE);
     bool has_hub = hub != NULL && *hub != 0;
     if (!has_another)
         joined_add(&joined, has_hub ? "; --preload records it" : "; its environment was cleaned, of LD_PRELOAD too",
                    sizeof why);
     if (has_hub)
-        unseen_note(hub, why);
+        hub_word_note(hub, why);
     else
         orphan_say(why);
 }

@@ -2,7 +2,7 @@
 
 #include "base/memory.h"
 #include "base/platform.h"
-#include "environment/beginning.h"
+#include "environment/startup.h"
 #include "shadow/mapping.h"
 #include "shadow/shadow.h"
 #include "stacks/own_stack.h"
@@ -16,7 +16,7 @@ static bool is_above_us(uintptr_t start, size_t size)
 /* Among the arguments and variables that the process was started with. */
 static bool is_at_beginning(uintptr_t start, size_t size)
 {
-    return start >= (uintptr_t)beginning.argv && start < beginning.end && size <= beginning.end - start;
+    return start >= (uintptr_t)startup.argv && start < startup.end && size <= startup.end - start;
 }
 
 bool given_is_there(uintptr_t start, size_t size)

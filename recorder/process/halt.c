@@ -11,7 +11,7 @@
 #include "process/halt_report.h"
 #include "process/process.h"
 #include "process/signals.h"
-#include "process/waiting.h"
+#include "process/preload_wait.h"
 #include "stream/record.h"
 #include "stream/side.h"
 #include "stream/state.h"

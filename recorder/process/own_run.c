@@ -13,8 +13,8 @@
 #include "base/platform.h"
 #include "base/say.h"
 #include "base/system.h"
-#include "process/aside.h"
-#include "environment/beginning.h"
+#include "process/preload_choice.h"
+#include "environment/startup.h"
 #include "environment/orphan.h"
 
 #define PROGRAM "asancol-run"
@@ -30,7 +30,7 @@ static const char *failure;
 static const char *value_of(const char *name)
 {
     size_t length = strlen(name);
-    for (char **entry = beginning.variables; entry != NULL && *entry != NULL; entry++)
+    for (char **entry = startup.variables; entry != NULL && *entry != NULL; entry++)
         if (strncmp(*entry, name, length) == 0 && (*entry)[length] == '=')
             return (*entry)[length + 1] != 0 ? *entry + length + 1 : NULL;
     return NULL;
@@ -51,8 +51,8 @@ static bool find_self(char *path, size_t room)
     ssize_t length = system_readlink("/proc/self/exe", path, room - 1);
     if (length > 0)
         path[length] = 0;
-    else if (strchr(beginning_name(), '/') != NULL && strlen(beginning_name()) < room)
-        strcpy(path, beginning_name());
+    else if (strchr(startup_name(), '/') != NULL && strlen(startup_name()) < room)
+        strcpy(path, startup_name());
     else
         return false;
     return system_access(path, X_OK) == 0;
@@ -64,7 +64,7 @@ static const char **make_argv(const char *self)
     static const char *const front[] = {PROGRAM, "-q", "--self", NULL, "--"};
     enum { FRONT = sizeof front / sizeof *front };
     size_t count = 0;
-    while (beginning.argv[count] != NULL)
+    while (startup.argv[count] != NULL)
         count++;
     size_t bytes = (count + FRONT + 1) * sizeof *front;
     long made = system_mmap(NULL, bytes, PROT_READ | PROT_WRITE, MAP_PRIVATE | MAP_ANONYMOUS, -1, 0);
@@ -74,14 +74,14 @@ static const char **make_argv(const char *self)
     memcpy(argv, front, sizeof front);
     argv[3] = self;
     for (size_t i = 0; i <= count; i++)
-        argv[FRONT + i] = beginning.argv[i];
+        argv[FRONT + i] = startup.argv[i];
     return argv;
 }
 
 /* Answers why it did not. */
 static int become(const char *path, const char *const *argv)
 {
-    return -(int)system_call3(SYS_execve, (long)path, (long)argv, (long)beginning.variables);
+    return -(int)system_call3(SYS_execve, (long)path, (long)argv, (long)startup.variables);
 }
 
 /* Tries each folder of PATH. */
@@ -109,7 +109,7 @@ void own_run_begin(void)
     const char *wanted = value_of("ASANCOL_RUN");
     if (wanted == NULL && asancol_by_option != NULL)
         wanted = "1";
-    if (IS_PRELOADED || wanted == NULL || strcmp(wanted, "0") == 0 || beginning.argv == NULL || beginning.is_set_user
+    if (IS_PRELOADED || wanted == NULL || strcmp(wanted, "0") == 0 || startup.argv == NULL || startup.is_set_user
         || has_output())
         return;
     const char **argv = NULL;
@@ -133,7 +133,7 @@ static bool is_at_terminal(void)
 void own_run_say(bool is_recorded)
 {
     if (failure != NULL)
-        recorder_say("ASANCOL_RUN: ", beginning_name(), failure);
+        recorder_say("ASANCOL_RUN: ", startup_name(), failure);
     else if (!is_recorded && asancol_by_flag != NULL && is_at_terminal())
         recorder_say("", "not checked", "run it under " PROGRAM ", or set ASANCOL_RUN=1");
 }

@@ -24,7 +24,7 @@
 #include "base/system.h"
 #include "common/text.h"
 #include "heap/heap.h"
-#include "process/aside.h"
+#include "process/preload_choice.h"
 #include "environment/link_note.h"
 #include "process/process.h"
 #include "process/threads.h"
@@ -77,7 +77,7 @@ static const struct stub *find_stub(const char *name)
 static void *own_of(const char *name)
 {
 #ifdef IS_PRELOAD
-    uintptr_t own = aside_function_behind(name);
+    uintptr_t own = preload_choice_function_behind(name);
 #else
     uintptr_t own = heap_function_behind(name);
     if (own == 0)
@@ -172,7 +172,7 @@ static bool find_way(const char *name, struct way *way)
     const struct stub *stub = find_stub(name);
     if (stub != NULL)
         *way = (struct way){*(const uintptr_t *)at_distance(&stub->function), (uintptr_t)at_distance(&stub->code),
-                            aside_is_behind(at_distance(&stub->function))};
+                            preload_choice_is_behind(at_distance(&stub->function))};
     else if (strcmp(name, "dlsym") == 0)
         *way = (struct way){(uintptr_t)library.dlsym, (uintptr_t)stub_of_dlsym, false};
     else if (strcmp(name, "dlvsym") == 0)
@@ -407,7 +407,7 @@ void plain_begin(void)
     enter_stubs();
     library.dl_iterate_phdr(read_library, NULL);
 #ifdef IS_PRELOAD
-    aside_find_behind(&library_object);
+    preload_choice_find_behind(&library_object);
 #endif
     library.dl_iterate_phdr(look_at, &(struct look){.is_start = IS_AT_START});
     atomic_store(&is_on, true);

@@ -12,11 +12,11 @@
 #include "base/system.h"
 #include "libc/library.h"
 #include "heap/heap.h"
-#include "process/aside.h"
+#include "process/preload_choice.h"
 #include "environment/orphan.h"
 #include "process/own_run.h"
 #include "process/threads.h"
-#include "environment/unseen.h"
+#include "environment/hub_word.h"
 #include "shadow/mapping.h"
 #include "stacks/fake_stack.h"
 #include "stacks/thread_notes.h"
@@ -68,7 +68,7 @@ bool recorder_halts(void)
 
 void recorder_say_who(void)
 {
-    unseen_note(process.settings.passed_over, "ASANCOL_TRACE is set for it, so its trace is there");
+    hub_word_note(process.settings.passed_over, "ASANCOL_TRACE is set for it, so its trace is there");
     if (recorder_hub() == NULL)
         orphan_say(NULL);
 }
@@ -105,7 +105,7 @@ static bool open_stream(void)
         process.settings.trace = trace_name;
         if (!name_of_pattern(process.pattern, trace_name, sizeof trace_name)) {
             recorder_say("nothing is recorded: ", process.pattern, "the name is too long");
-            unseen_note(process.settings.hub, "the name of its trace is too long");
+            hub_word_note(process.settings.hub, "the name of its trace is too long");
             return false;
         }
     }
@@ -185,7 +185,7 @@ void recorder_start(void)
     heap_unlock();
     if (!atomic_load(&stream_page.stream.is_idle))
         fake_stack_start(process.settings.use_after_return);
-    unseen_expect_no_more(recorder_hub());
+    hub_word_expect_no_more(recorder_hub());
 }
 
 bool recorder_begins_late(void)
@@ -197,7 +197,7 @@ bool recorder_begin_late(void)
 {
     if (heap_is_entered()) {
         recorder_say("nothing is recorded: ", "a signal handler", "it came in the middle of an allocation");
-        unseen_note(process.settings.hub, "its first fault came in the middle of an allocation");
+        hub_word_note(process.settings.hub, "its first fault came in the middle of an allocation");
         return false;
     }
     struct disturbance before;
@@ -269,7 +269,7 @@ void recorder_say_child(void)
     state_forget();
     if (process.settings.hub == NULL)
         recorder_say("a child is not recorded: ", output_name(), why);
-    unseen_note(process.settings.hub, why);
+    hub_word_note(process.settings.hub, why);
 }
 
 void recorder_finish(enum finish finish)

@@ -13,7 +13,7 @@
 #include <threads.h>
 #include <unwind.h>
 
-#include "environment/beginning.h"
+#include "environment/startup.h"
 #include "process/signal_stack.h"
 #include "libc/library.h"
 #include "heap/heap.h"

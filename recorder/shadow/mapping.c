@@ -18,7 +18,7 @@
 #include "libc/library.h"
 #include "environment/orphan.h"
 #include "environment/settings.h"
-#include "environment/unseen.h"
+#include "environment/hub_word.h"
 
 extern const struct recorder_hooks asancol_hooks;
 #endif
@@ -34,7 +34,7 @@ static _Noreturn void fail(const char *why)
             break;
 #ifndef IN_SHARED_OBJECT
     if (settings_hub() != NULL)
-        unseen_note(settings_hub(), why);
+        hub_word_note(settings_hub(), why);
     else
         orphan_say(why);
 #endif

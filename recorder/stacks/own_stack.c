@@ -5,7 +5,7 @@
 
 #include "base/platform.h"
 #include "base/system.h"
-#include "environment/beginning.h"
+#include "environment/startup.h"
 
 /* The first thread's stack reaches so far down. */
 enum { DEFAULT_STACK_SIZE = 8 << 20 };
@@ -22,7 +22,7 @@ void stack_start(void)
     uint64_t size = DEFAULT_STACK_SIZE;
     if (system_getrlimit(RLIMIT_STACK, &limit) == 0 && limit.rlim_cur > size)
         size = limit.rlim_cur < MAX_STACK_SIZE ? limit.rlim_cur : MAX_STACK_SIZE;
-    own_stack.top = page_above((uintptr_t)beginning.argv);
+    own_stack.top = page_above((uintptr_t)startup.argv);
     own_stack.low = own_stack.top - size;
     own_stack.readable = own_stack.top;
     own_stack.may_grow = true;

@@ -1,8 +1,8 @@
-/* The preloaded recorder has names of the C library: these, which lead where aside.c says. A call comes here with
-   whatever its caller has given it, and its caller stays the caller. */
+/* The preloaded recorder has names of the C library: these, which lead where preload_choice.c says. A call comes here
+   with whatever its caller has given it, and its caller stays the caller. */
 #include "base/platform.h"
 #include "base/processor_stubs.h"
-#include "process/aside.h"
+#include "process/preload_choice.h"
 
 /* The recorder's function of the name is called `asancol_instead_NAME` (Makefile). At its first call a way leads to
    find_way, with the way. A module that was opened with RTLD_DEEPBIND finds the C library's function first: so

@@ -1,15 +1,15 @@
 #define _GNU_SOURCE
-#include "start/first.h"
+#include "start/preinit.h"
 
 #include <elf.h>
 #include <stdbool.h>
 #include <stddef.h>
 #include <stdint.h>
 
-#include "process/becoming.h"
-#include "environment/beginning.h"
+#include "process/exec_notice.h"
+#include "environment/startup.h"
 #include "environment/hub_names.h"
-#include "environment/unseen.h"
+#include "environment/hub_word.h"
 
 extern void *__libc_stack_end;
 extern const Elf64_Ehdr __ehdr_start __attribute__((visibility("hidden")));
@@ -69,13 +69,13 @@ static const char *hub_at_start(char *const **argv)
     char *const *variables = *argv + *at + 1;
     for (char *const *it = variables; *it != NULL && hub == NULL; it++)
         hub = value_after(*it, HUB_ENTRY);
-    return hub != NULL && *hub != 0 && !beginning_is_set_user(variables) ? hub : NULL;
+    return hub != NULL && *hub != 0 && !startup_is_set_user(variables) ? hub : NULL;
 }
 
-void first_resolver(void)
+void preinit_resolver(void)
 {
     char *const *argv;
     const char *hub = has_resolvers() ? hub_at_start(&argv) : NULL;
     if (hub != NULL)
-        unseen_expect(hub, *argv != NULL ? *argv : "", NEVER_BEGAN);
+        hub_word_expect(hub, *argv != NULL ? *argv : "", NEVER_BEGAN);
 }

@@ -13,8 +13,8 @@
 #include "interface/interface.h"
 #include "interface/reports.h"
 #include "leaks/leaks.h"
-#include "process/aside.h"
-#include "environment/beginning.h"
+#include "process/preload_choice.h"
+#include "environment/startup.h"
 #include "process/halt.h"
 #include "process/own_run.h"
 #include "process/process.h"
@@ -60,7 +60,7 @@ static void after_handlers(void *unused)
 static void after_destructors(void)
 {
     ends.destructors_are_over = true;
-    if (!aside_is_own())
+    if (!preload_choice_is_own())
         return;
     if (!ends.is_registered || ends.handlers_are_over)
         end_at_exit(true);
@@ -85,14 +85,14 @@ __attribute__((section(".fini_array.00000"), used)) static void (*last_destructo
 static void find_argv(void)
 {
 #ifdef IS_STATIC
-    beginning_note(beginning.argv, *library.environment); /* the library has begun, and its stack ends elsewhere */
+    startup_note(startup.argv, *library.environment); /* the library has begun, and its stack ends elsewhere */
 #else
     if (library.__libc_stack_end == NULL)
         return;
     char **argv = (char **)*library.__libc_stack_end + 1;
     size_t count = ((const size_t *)*library.__libc_stack_end)[0];
     if (argv[count] == NULL)
-        beginning_note(argv, argv + count + 1);
+        startup_note(argv, argv + count + 1);
 #endif
 }
 
@@ -126,7 +126,7 @@ void asancol_start(void)
 static bool start_if_ready(void)
 {
     library_begin();
-    if ((beginning.variables == NULL && !library_is_alone()) || heap_is_entered())
+    if ((startup.variables == NULL && !library_is_alone()) || heap_is_entered())
         return false;
     asancol_start();
     return true;

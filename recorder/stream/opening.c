@@ -7,8 +7,8 @@
 #include "base/platform.h"
 #include "base/say.h"
 #include "base/system.h"
-#include "environment/earlier.h"
-#include "environment/unseen.h"
+#include "environment/stale_trace.h"
+#include "environment/hub_word.h"
 #include "stream/faults.h"
 #include "stream/growing.h"
 #include "stream/locked.h"
@@ -195,7 +195,7 @@ bool stream_begin(const struct settings *settings)
     if (why != NULL) {
         const char *of = settings->trace ? settings->trace : settings->hub ? settings->hub : settings->socket;
         recorder_say("nothing is recorded: ", of, why);
-        unseen_note(settings->hub, why);
+        hub_word_note(settings->hub, why);
         return false;
     }
     begin_process(settings);

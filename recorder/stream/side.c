@@ -15,7 +15,7 @@
 #include "base/self.h"
 #include "base/system.h"
 #include "libc/library.h"
-#include "environment/beginning.h"
+#include "environment/startup.h"
 #include "shadow/mapping.h"
 #include "stacks/thread_notes.h"
 #include "stream/locked.h"
@@ -66,9 +66,9 @@ static size_t read_file(const char *path, char *to, size_t room)
    not, since the program has other ones by now. */
 static size_t copy_words(char *to, size_t room)
 {
-    uintptr_t start = beginning.are_all_words ? (uintptr_t)beginning.words : 0, next = start;
-    for (char **word = beginning.argv; next != 0 && next < start + room && *word != NULL; word++) {
-        if ((uintptr_t)*word != next || next >= beginning.end)
+    uintptr_t start = startup.are_all_words ? (uintptr_t)startup.words : 0, next = start;
+    for (char **word = startup.argv; next != 0 && next < start + room && *word != NULL; word++) {
+        if ((uintptr_t)*word != next || next >= startup.end)
             return 0;
         next += strlen(*word) + 1;
     }
@@ -85,16 +85,16 @@ static void read_argv(struct side *side)
 {
     static AS_TABLE char seen[SIDE_ARGV]; /* the lock is held */
     static size_t length;
-    uintptr_t words = (uintptr_t)beginning.words;
-    bool is_there = words != 0 && words < beginning.end && length <= beginning.end - words;
+    uintptr_t words = (uintptr_t)startup.words;
+    bool is_there = words != 0 && words < startup.end && length <= startup.end - words;
     if (length == 0)
         length = copy_words(seen, SIDE_ARGV - 2);
-    if (length == 0 || !is_there || memcmp(beginning.words, seen, length) != 0)
+    if (length == 0 || !is_there || memcmp(startup.words, seen, length) != 0)
         length = read_file("/proc/self/cmdline", seen, SIDE_ARGV - 2);
     if (length != 0)
         memcpy(side->argv, seen, length);
     else
-        strncpy(side->argv, beginning_name(), SIDE_ARGV - 2);
+        strncpy(side->argv, startup_name(), SIDE_ARGV - 2);
 }
 
 static struct side_progress *progress_in(struct side *side)

@@ -21,9 +21,9 @@
 #include "base/lock.h"
 #include "base/say.h"
 #include "base/self.h"
-#include "environment/earlier.h"
+#include "environment/stale_trace.h"
 #include "environment/other_threads.h"
-#include "environment/unseen.h"
+#include "environment/hub_word.h"
 #include "stream/ending.h"
 #include "stream/faults.h"
 #include "stream/locked.h"
@@ -154,7 +154,7 @@ void undisturbed_end(const struct disturbance *before)
     (void)before;
     explore_disturb(-1);
 }
-void unseen_note(const char *hub, const char *why) { (void)hub, (void)why; }
+void hub_word_note(const char *hub, const char *why) { (void)hub, (void)why; }
 void recorder_say(const char *what, const char *of, const char *why)
 {
     (void)what, (void)of, (void)why;

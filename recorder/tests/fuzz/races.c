@@ -20,10 +20,10 @@
 #include "libc/library.h"
 #include "heap/arena.h"
 #include "environment/asking.h"
-#include "environment/beginning.h"
-#include "environment/earlier.h"
+#include "environment/startup.h"
+#include "environment/stale_trace.h"
 #include "environment/other_threads.h"
-#include "environment/unseen.h"
+#include "environment/hub_word.h"
 #include "shadow/globals.h"
 #include "shadow/mapping.h"
 #include "stacks/own_stack.h"
@@ -131,7 +131,7 @@ static const char is_alone = 0;
 struct library library = {.clock_gettime = read_clock, .__libc_single_threaded = &is_alone};
 bool has_other_threads(void) { return true; }
 struct code_range own_code;
-struct beginning beginning;
+struct startup startup;
 int self_process(void)
 {
     return getpid();
@@ -140,9 +140,9 @@ bool recorder_has_checks(void) { return true; }
 bool recorder_has_begun(void) { return true; }
 bool recorder_is_own_process(void) { return true; }
 bool is_of_earlier_run(const char *path) { return path == NULL; }
-const char *beginning_name(void) { return "races"; }
+const char *startup_name(void) { return "races"; }
 void signal_take_away(int number) { (void)number; }
-void unseen_note(const char *hub, const char *why) { (void)hub, (void)why; }
+void hub_word_note(const char *hub, const char *why) { (void)hub, (void)why; }
 void recorder_say(const char *what, const char *of, const char *why)
 {
     if (strstr(what, "left out") == NULL && strstr(what, "goes to") == NULL && strstr(what, "no close") == NULL)

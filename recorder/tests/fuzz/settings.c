@@ -7,10 +7,10 @@
 #include "base/say.c"
 #undef recorder_say
 #include "common/format.h"
-#include "environment/beginning.h"
+#include "environment/startup.h"
 #include "environment/settings.h"
 
-struct beginning beginning;
+struct startup startup;
 
 int LLVMFuzzerTestOneInput(const uint8_t *data, size_t size);
 
@@ -76,7 +76,7 @@ int LLVMFuzzerTestOneInput(const uint8_t *data, size_t size)
     for (char *at = text; at < text + size && count < MAX_ENTRIES; at += strlen(at) + 1)
         entries[count++] = at;
     entries[count] = NULL;
-    beginning.variables = entries;
+    startup.variables = entries;
     settings_read(&settings);
     look_at(&settings);
     free(text);

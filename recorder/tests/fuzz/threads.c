@@ -13,9 +13,9 @@
 #include "base/say.h"
 #include "base/self.h"
 #include "libc/library.h"
-#include "environment/earlier.h"
+#include "environment/stale_trace.h"
 #include "environment/other_threads.h"
-#include "environment/unseen.h"
+#include "environment/hub_word.h"
 #include "stream/ending.h"
 #include "stream/faults.h"
 #include "stream/left_out.h"
@@ -89,7 +89,7 @@ void side_end_modules(uint64_t generation)
 void signal_take_away(int number) { (void)number; }
 void undisturbed_begin(struct disturbance *before) { (void)before; }
 void undisturbed_end(const struct disturbance *before) { (void)before; }
-void unseen_note(const char *hub, const char *why) { (void)hub, (void)why; }
+void hub_word_note(const char *hub, const char *why) { (void)hub, (void)why; }
 void recorder_say(const char *what, const char *of, const char *why)
 {
     if (strstr(what, "left out") == NULL)

@@ -1,7 +1,7 @@
 /* Whether the preloaded recorder records this process, or steps aside: if the program has a recorder, as all that
    asancol-cc has linked, or if there is no room for the shadow. */
-#ifndef ASANCOL_ASIDE_H
-#define ASANCOL_ASIDE_H
+#ifndef ASANCOL_PRELOAD_CHOICE_H
+#define ASANCOL_PRELOAD_CHOICE_H
 
 #include <stdbool.h>
 #include <stdint.h>
@@ -14,14 +14,14 @@ struct exported {
     _Atomic uintptr_t to;
     uintptr_t own, code; /* the recorder's function, and where a call of the name leads */
     const char *name;
-    uintptr_t behind; /* the C library's function of the name, if that is hidden; or 0 (aside_find_behind) */
+    uintptr_t behind; /* the C library's function of the name, if that is hidden; or 0 (preload_choice_find_behind) */
 };
 
 #ifdef IS_PRELOAD
 /* Decided at the first call. */
-bool aside_is_own(void);
+bool preload_choice_is_own(void);
 #else
-static inline bool aside_is_own(void)
+static inline bool preload_choice_is_own(void)
 {
     return true;
 }
@@ -29,14 +29,14 @@ static inline bool aside_is_own(void)
 
 struct object;
 /* Finds what the names hide of this object, the C library. Once, before the first slot is looked at (plain.c). */
-void aside_find_behind(const struct object *of);
+void preload_choice_find_behind(const struct object *of);
 /* Where a call of a name leads, if the recorder has that; or 0. */
-uintptr_t aside_function_behind(const char *name);
+uintptr_t preload_choice_function_behind(const char *name);
 /* Whether a pointer leads to a hidden function. */
 #ifdef IS_PRELOAD
-bool aside_is_behind(const void *pointer);
+bool preload_choice_is_behind(const void *pointer);
 #else
-static inline bool aside_is_behind(const void *pointer)
+static inline bool preload_choice_is_behind(const void *pointer)
 {
     (void)pointer;
     return false;

@@ -1,28 +1,28 @@
 /* Word for a hub of what it does not see. Else its run would look complete. None of this needs a descriptor if the
    process may write into the hub's folder, nor memory or a lock. The hub is its socket's path, or null: then nothing is
    done. */
-#ifndef ASANCOL_UNSEEN_H
-#define ASANCOL_UNSEEN_H
+#ifndef ASANCOL_HUB_WORD_H
+#define ASANCOL_HUB_WORD_H
 
 #include <stdbool.h>
 
 #include "base/platform.h"
 
 /* This process is not recorded, or not there. */
-void unseen_note(const char *hub, const char *why) OWN_NAME(unseen_note);
+void hub_word_note(const char *hub, const char *why) OWN_NAME(hub_word_note);
 /* The same, by a connection alone. False: the hub is not there, or does not take the process for its own. */
-bool unseen_tell(const char *hub, const char *why) OWN_NAME(unseen_tell);
+bool hub_word_tell(const char *hub, const char *why) OWN_NAME(hub_word_tell);
 
 /* This process becomes a program that asancol-cc has built, and is expected to connect. The text says why it did not if
    it never does. It answers 0; or -EEXIST, if there is one; or another error below zero. */
-int unseen_expect(const char *hub, const char *program, const char *why);
+int hub_word_expect(const char *hub, const char *program, const char *why);
 /* It has connected, or given word; or did not become it. */
-void unseen_expect_no_more(const char *hub);
+void hub_word_expect_no_more(const char *hub);
 /* A signal has ended this child. */
-void unseen_killed(const char *hub, int child, int number);
+void hub_word_killed(const char *hub, int child, int number);
 /* The same of a child that is about to be begun, and has no number yet; and then it has one, or 0 if it was not
    begun. */
-bool unseen_expect_child(const char *hub, const char *program, const char *why);
-void unseen_expect_as(const char *hub, int child);
+bool hub_word_expect_child(const char *hub, const char *program, const char *why);
+void hub_word_expect_as(const char *hub, int child);
 
 #endif

@@ -1,10 +1,10 @@
 /* Before the resolvers of a program. Of the C library nothing may be called then. */
-#ifndef ASANCOL_FIRST_H
-#define ASANCOL_FIRST_H
+#ifndef ASANCOL_PREINIT_H
+#define ASANCOL_PREINIT_H
 
 #include "base/platform.h"
 
 /* If the program has other resolvers, tells the hub to expect it, as before an exec. */
-void first_resolver(void) OWN_NAME(first_resolver);
+void preinit_resolver(void) OWN_NAME(preinit_resolver);
 
 #endif

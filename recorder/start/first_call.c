@@ -1,15 +1,15 @@
-/* The first call into an object: of a program by first.c, of a shared object when it is loaded. A preloaded one comes
+/* The first call into an object: of a program by preinit.c, of a shared object when it is loaded. A preloaded one comes
    before all others (-z initfirst). */
-#include "start/early.h"
+#include "start/first_call.h"
 
 #include <stddef.h>
 
-#include "environment/beginning.h"
+#include "environment/startup.h"
 #ifdef IN_SHARED_OBJECT
 #include "shadow/mapping.h"
 #else
 #include "process/plain.h"
-#include "process/aside.h"
+#include "process/preload_choice.h"
 #include "start/start.h"
 #endif
 
@@ -19,11 +19,11 @@ extern void asancol_register_early(void) __attribute__((weak, visibility("hidden
 static void map_early(int count, char **argv, char **variables)
 {
     (void)count;
-    beginning_note(argv, variables);
+    startup_note(argv, variables);
 #ifdef IN_SHARED_OBJECT
     shadow_map();
 #else
-    if (!aside_is_own())
+    if (!preload_choice_is_own())
         return;
     asancol_start();
 #if !defined IS_STATIC && !defined IS_PRELOAD
@@ -34,7 +34,7 @@ static void map_early(int count, char **argv, char **variables)
         asancol_register_early();
 }
 
-/* In a program first.c calls it. */
+/* In a program preinit.c calls it. */
 #if defined IN_SHARED_OBJECT || defined IS_PRELOAD
 __attribute__((section(".init_array.00000"), used))
 #endif

@@ -1,6 +1,6 @@
 /* Whether a trace that is there is one of an earlier run. */
-#ifndef ASANCOL_EARLIER_H
-#define ASANCOL_EARLIER_H
+#ifndef ASANCOL_STALE_TRACE_H
+#define ASANCOL_STALE_TRACE_H
 
 #include <stdbool.h>
 

@@ -1,6 +1,6 @@
 /* Which programs asancol-cc has built. */
-#ifndef ASANCOL_BUILT_H
-#define ASANCOL_BUILT_H
+#ifndef ASANCOL_LINK_MARK_H
+#define ASANCOL_LINK_MARK_H
 
 enum built {
     BUILT_BY_OTHERS,
@@ -11,6 +11,6 @@ enum built {
 /* Who has built the file that an exec would run, by the note of its link (link_note.h); of a script it is its
    interpreter. A file that can't be read is others'. Needs a descriptor for a moment, and may be called in a child of
    vfork. */
-enum built built_by(const char *path);
+enum built link_mark_of(const char *path);
 
 #endif

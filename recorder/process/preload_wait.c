@@ -1,4 +1,4 @@
-#include "process/waiting.h"
+#include "process/preload_wait.h"
 
 #include <stdatomic.h>
 #include <stdbool.h>
@@ -7,7 +7,7 @@
 #include "base/self.h"
 #include "process/plain.h"
 #include "heap/heap.h"
-#include "process/aside.h"
+#include "process/preload_choice.h"
 #include "process/process.h"
 #include "process/signals.h"
 #include "stream/side.h"

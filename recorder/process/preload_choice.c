@@ -1,5 +1,5 @@
 #define _GNU_SOURCE
-#include "process/aside.h"
+#include "process/preload_choice.h"
 
 #include <link.h>
 #include <stdatomic.h>
@@ -35,7 +35,7 @@ static int look_for_recorder(struct dl_phdr_info *module, size_t size, void *has
 }
 
 /* The first call comes from the dynamic linker, or from the first constructor: there is no other thread yet. */
-bool aside_is_own(void)
+bool preload_choice_is_own(void)
 {
     static bool is_decided, is_own;
     bool has_recorder = false;
@@ -53,12 +53,12 @@ bool aside_is_own(void)
 /* A name that nobody else has is one that nobody can have called. */
 uintptr_t way_of(struct exported *it)
 {
-    uintptr_t to = aside_is_own() ? it->own : (uintptr_t)library_next(it->name);
+    uintptr_t to = preload_choice_is_own() ? it->own : (uintptr_t)library_next(it->name);
     atomic_store_explicit(&it->to, to, memory_order_relaxed);
     return to;
 }
 
-uintptr_t aside_function_behind(const char *name)
+uintptr_t preload_choice_function_behind(const char *name)
 {
     for (struct exported *it = exported; it != exported_end; it++)
         if (strcmp(it->name, name) == 0)
@@ -66,14 +66,14 @@ uintptr_t aside_function_behind(const char *name)
     return 0;
 }
 
-void aside_find_behind(const struct object *of)
+void preload_choice_find_behind(const struct object *of)
 {
     for (struct exported *it = exported; it != exported_end; it++)
         if ((uintptr_t)library_first(it->name) == it->code)
             it->behind = object_find(of, it->name);
 }
 
-bool aside_is_behind(const void *pointer)
+bool preload_choice_is_behind(const void *pointer)
 {
     return (uintptr_t)pointer >= (uintptr_t)exported && (uintptr_t)pointer < (uintptr_t)exported_end;
 }

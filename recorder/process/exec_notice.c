@@ -1,5 +1,5 @@
 #define _GNU_SOURCE
-#include "process/becoming.h"
+#include "process/exec_notice.h"
 
 #include <errno.h>
 #include <fcntl.h>
@@ -8,7 +8,7 @@
 #include <sys/stat.h>
 #include <unistd.h>
 
-#include "process/built.h"
+#include "process/link_mark.h"
 #include "libc/library.h"
 #include "base/digits.h"
 #include "base/self.h"
@@ -18,7 +18,7 @@
 #include "stream/side.h"
 #include "stream/state.h"
 #include "base/system.h"
-#include "environment/unseen.h"
+#include "environment/hub_word.h"
 
 /* So much of the name that a descriptor has is shown. */
 enum { SHOWN_ROOM = 256 };
@@ -100,7 +100,7 @@ static const char *why_unseen(const struct target *target, const char *path)
 /* The file if it was built with the recorder, or null: with why it may never connect. */
 static const char *expected_in(const struct target *target, const char *path, const char **why)
 {
-    enum built built = path != NULL ? built_by(path) : BUILT_BY_OTHERS;
+    enum built built = path != NULL ? link_mark_of(path) : BUILT_BY_OTHERS;
     *why = built == BUILT_BY_US ? why_unseen(target, path)
                                 : "nothing came of it, and no descriptor was left to see if asancol-cc built it";
     return built != BUILT_BY_OTHERS ? path : NULL;
@@ -114,14 +114,14 @@ static bool note_exec(const struct target *target, const char *found)
         return false;
     long length = target->name == NULL ? system_readlink(path, shown, sizeof shown - 1) : 0;
     shown[length > 0 ? length : 0] = 0;
-    int failed = unseen_expect(recorder_hub(), length > 0 ? shown : path, why);
+    int failed = hub_word_expect(recorder_hub(), length > 0 ? shown : path, why);
     /* From where the folder is not seen the side memory is. A child of vfork has none. */
     bool is_noted = failed != 0 && failed != -EEXIST && recorder_is_own_process() && side_note_becoming(true);
     return failed == 0 || is_noted;
 }
 
 /* Without a hub nobody needs the path: then leaving for nothing costs less than looking for a file. */
-unsigned becoming_leave(const struct target *target)
+unsigned exec_notice_leave(const struct target *target)
 {
     char room[PATH_MAX];
     const char *path = NULL;
@@ -137,33 +137,33 @@ unsigned becoming_leave(const struct target *target)
     return (is_left ? LEFT_RECORDING : 0) | (is_noted ? LEFT_WORD : 0);
 }
 
-void becoming_take_back(void)
+void exec_notice_take_back(void)
 {
-    unseen_expect_no_more(recorder_hub());
+    hub_word_expect_no_more(recorder_hub());
     if (recorder_is_own_process())
         side_note_becoming(false);
 }
 
-bool becoming_note_child(const struct target *target)
+bool exec_notice_of_child(const struct target *target)
 {
     char room[PATH_MAX];
     bool may_be;
     _Atomic uint64_t *calls = side_begin_calls(true);
     const char *why, *found = recorder_hub() != NULL ? path_of(target, room, &may_be) : NULL;
     const char *path = expected_in(target, found, &why);
-    bool is_noted = path != NULL && unseen_expect_child(recorder_hub(), target->name, why);
+    bool is_noted = path != NULL && hub_word_expect_child(recorder_hub(), target->name, why);
     side_end_calls(calls);
     return is_noted;
 }
 
-void becoming_note_killed(int child, int number)
+void exec_notice_child_killed(int child, int number)
 {
-    unseen_killed(recorder_hub(), child, number);
+    hub_word_killed(recorder_hub(), child, number);
 }
 
-void becoming_note_number(int child)
+void exec_notice_child_number(int child)
 {
     _Atomic uint64_t *calls = side_begin_calls(true);
-    unseen_expect_as(recorder_hub(), child);
+    hub_word_expect_as(recorder_hub(), child);
     side_end_calls(calls);
 }

@@ -1,7 +1,7 @@
 /* A program that this process becomes by an exec, or begins as a child: if asancol-cc has built it, the hub expects it
    to connect. It may die before it does, in the dynamic linker already, or not know of the hub. */
-#ifndef ASANCOL_BECOMING_H
-#define ASANCOL_BECOMING_H
+#ifndef ASANCOL_EXEC_NOTICE_H
+#define ASANCOL_EXEC_NOTICE_H
 
 #include <stdbool.h>
 #include <stddef.h>
@@ -19,14 +19,14 @@ struct target {
 
 /* Before an exec: leaves the recording too. Answers the changes to take back if the exec fails, perhaps none:
    so it is where the system finds no such file. */
-unsigned becoming_leave(const struct target *target);
+unsigned exec_notice_leave(const struct target *target);
 enum { LEFT_RECORDING = 1, LEFT_WORD = 2 };
 /* The exec has failed. */
-void becoming_take_back(void);
+void exec_notice_take_back(void);
 /* Before a child is begun, and once it has its number; 0: it has not begun. */
-bool becoming_note_child(const struct target *target);
-void becoming_note_number(int child);
+bool exec_notice_of_child(const struct target *target);
+void exec_notice_child_number(int child);
 /* A signal has ended a child, which may not have come so far as to say so itself. */
-void becoming_note_killed(int child, int number);
+void exec_notice_child_killed(int child, int number);
 
 #endif

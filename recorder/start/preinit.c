@@ -1,9 +1,9 @@
 /* What runs first of a program. It is linked before the program's own objects, so that its entry is the first of
    .preinit_array, and its resolver the first of the program: the dynamic linker calls that once it has relocated all
    libraries. A program that dies in a resolver of its own has left word by then. */
-#include "start/first.h"
+#include "start/preinit.h"
 
-#include "start/early.h"
+#include "start/first_call.h"
 
 typedef void start(int count, char **argv, char **variables);
 
@@ -17,7 +17,7 @@ static void begin(int count, char **argv, char **variables)
 #else
 __attribute__((used)) static start *resolve(void)
 {
-    first_resolver();
+    preinit_resolver();
     return begin;
 }
 

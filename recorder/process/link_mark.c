@@ -1,5 +1,5 @@
 #define _GNU_SOURCE
-#include "process/built.h"
+#include "process/link_mark.h"
 
 #include <elf.h>
 #include <errno.h>
@@ -78,7 +78,7 @@ static const char *interpreter_in(char *head, size_t size)
     return head + at;
 }
 
-enum built built_by(const char *path)
+enum built link_mark_of(const char *path)
 {
     _Alignas(8) char head[HEAD_BYTES];
     for (int scripts = 0; path != NULL && scripts <= MAX_SCRIPTS; scripts++) {

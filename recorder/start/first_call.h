@@ -1,6 +1,6 @@
 /* The first call into an object. */
-#ifndef ASANCOL_EARLY_H
-#define ASANCOL_EARLY_H
+#ifndef ASANCOL_FIRST_CALL_H
+#define ASANCOL_FIRST_CALL_H
 
 /* In an object's first constructor. The link asks for it by its name. */
 extern void (*const asancol_map_early)(int count, char **argv, char **variables);

@@ -1,5 +1,5 @@
 #define _GNU_SOURCE
-#include "environment/earlier.h"
+#include "environment/stale_trace.h"
 
 #include <fcntl.h>
 #include <string.h>

@@ -1,6 +1,6 @@
 /* A preloaded recorder waits for the first shared object of asancol-cc, or the first bad access or free. */
-#ifndef ASANCOL_WAITING_H
-#define ASANCOL_WAITING_H
+#ifndef ASANCOL_PRELOAD_WAIT_H
+#define ASANCOL_PRELOAD_WAIT_H
 
 /* Begins the recording, if it waits. Where a handler has interrupted the allocator, the next fault does. */
 void recorder_wait_no_more(void);

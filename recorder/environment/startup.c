@@ -1,9 +1,9 @@
-#include "environment/beginning.h"
+#include "environment/startup.h"
 
 #include <elf.h>
 #include <stddef.h>
 
-struct beginning beginning;
+struct startup startup;
 
 #ifndef IN_SHARED_OBJECT
 
@@ -20,32 +20,32 @@ static uint64_t number_behind(char *const *variables, uint64_t type, uint64_t ot
     return otherwise;
 }
 
-bool beginning_is_set_user(char *const *variables)
+bool startup_is_set_user(char *const *variables)
 {
     return number_behind(variables, AT_SECURE, 1) != 0;
 }
 
 #endif
 
-void beginning_note(char **argv, char **variables)
+void startup_note(char **argv, char **variables)
 {
-    beginning.argv = argv;
+    startup.argv = argv;
 #ifndef IN_SHARED_OBJECT
-    if (beginning.variables != NULL || variables == NULL)
+    if (startup.variables != NULL || variables == NULL)
         return;
-    beginning.is_set_user = beginning_is_set_user(variables);
-    beginning.system_code = number_behind(variables, AT_SYSINFO_EHDR, 0);
+    startup.is_set_user = startup_is_set_user(variables);
+    startup.system_code = number_behind(variables, AT_SYSINFO_EHDR, 0);
     uintptr_t last = number_behind(variables, AT_EXECFN, 0); /* it lies above all other texts */
-    beginning.words = argv[0];
-    beginning.are_all_words = number_behind(variables, AT_BASE, 0) != 0;
-    beginning.end = last > (uintptr_t)argv ? last / PAGE * PAGE + PAGE : 0;
-    beginning.variables = variables;
+    startup.words = argv[0];
+    startup.are_all_words = number_behind(variables, AT_BASE, 0) != 0;
+    startup.end = last > (uintptr_t)argv ? last / PAGE * PAGE + PAGE : 0;
+    startup.variables = variables;
 #else
     (void)variables; /* where the object is opened later, they may be others */
 #endif
 }
 
-const char *beginning_name(void)
+const char *startup_name(void)
 {
-    return beginning.argv != NULL && beginning.argv[0] != NULL ? beginning.argv[0] : "";
+    return startup.argv != NULL && startup.argv[0] != NULL ? startup.argv[0] : "";
 }

@@ -1,11 +1,11 @@
 #define _GNU_SOURCE
-#include "environment/unseen.h"
+#include "environment/hub_word.h"
 
 #include <errno.h>
 #include <fcntl.h>
 
 #include "environment/asking.h"
-#include "environment/beginning.h"
+#include "environment/startup.h"
 #include "base/digits.h"
 #include "environment/hub_names.h"
 #include "base/system.h"
@@ -27,26 +27,26 @@ static int make_mark(const char *name, const char *program, const char *why, con
     return system_symlink(text, name);
 }
 
-bool unseen_tell(const char *hub, const char *why)
+bool hub_word_tell(const char *hub, const char *why)
 {
     char text[ASK_MOST], answer;
     struct joined joined = {.text = text, .room = sizeof text};
     joined_add(&joined, ASK_UNSEEN "\n", sizeof text);
-    joined_add(&joined, beginning_name(), MAX_PROGRAM_LENGTH);
+    joined_add(&joined, startup_name(), MAX_PROGRAM_LENGTH);
     joined_add(&joined, "\n", 1);
     joined_add(&joined, why, sizeof text);
     return ask(hub, text, false, &answer, sizeof answer) > 0;
 }
 
-void unseen_note(const char *hub, const char *why)
+void hub_word_note(const char *hub, const char *why)
 {
     char name[HUB_MARK_ROOM];
     if (hub == NULL)
         return;
     int failed = hub_mark(name, hub, (unsigned long)system_getpid(), MARK_UNSEEN)
-                     ? make_mark(name, beginning_name(), why, NULL) : -ENOENT;
+                     ? make_mark(name, startup_name(), why, NULL) : -ENOENT;
     if (failed != 0 && failed != -EEXIST)
-        unseen_tell(hub, why);
+        hub_word_tell(hub, why);
 }
 
 #ifndef IN_SHARED_OBJECT
@@ -63,19 +63,19 @@ static int expect_as(const char *hub, int number, const char *end, const char *p
     return make_mark(name, program, why, put_digits(digits + sizeof digits, time, 1));
 }
 
-int unseen_expect(const char *hub, const char *program, const char *why)
+int hub_word_expect(const char *hub, const char *program, const char *why)
 {
     return expect_as(hub, system_getpid(), MARK_EXPECTED, program, why);
 }
 
-void unseen_expect_no_more(const char *hub)
+void hub_word_expect_no_more(const char *hub)
 {
     char name[HUB_MARK_ROOM];
     if (hub != NULL && hub_mark(name, hub, (unsigned long)system_getpid(), MARK_EXPECTED))
         system_unlink(name);
 }
 
-void unseen_killed(const char *hub, int child, int number)
+void hub_word_killed(const char *hub, int child, int number)
 {
     char name[HUB_MARK_ROOM], digits[DIGITS_ROOM], parent[DIGITS_ROOM];
     if (hub != NULL && hub_mark(name, hub, (unsigned long)child, MARK_KILLED))
@@ -84,12 +84,12 @@ void unseen_killed(const char *hub, int child, int number)
 }
 
 /* One thread begins one child at a time. */
-bool unseen_expect_child(const char *hub, const char *program, const char *why)
+bool hub_word_expect_child(const char *hub, const char *program, const char *why)
 {
     return expect_as(hub, system_gettid(), "begins", program, why) == 0;
 }
 
-void unseen_expect_as(const char *hub, int child)
+void hub_word_expect_as(const char *hub, int child)
 {
     char before[HUB_MARK_ROOM], name[HUB_MARK_ROOM];
     if (!hub_mark(before, hub, (unsigned long)system_gettid(), "begins"))
