@@ -95,8 +95,8 @@ DRAWN = [
 ]
 
 # The parts of the stream.
-STREAM = ("state", "regions", "places", "watched", "stated", "opening", "growing", "sending", "switching", "holes",
-          "tail", "left_out", "ending", "losing", "output", "windows", "segments")
+STREAM = ("state", "regions", "places", "watched", "stated", "opening", "growing", "keeping", "sending", "switching",
+          "holes", "ending", "output", "windows", "segments")
 
 # Threads wait for others as long as it takes: on a busy machine one may sleep in the middle of a record for so long
 # that another one puts a record in its place, and both write there (holes.c). recorder/tests/exploring.py has the

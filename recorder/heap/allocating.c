@@ -20,7 +20,7 @@
 #include "heap/shards.h"
 #include "heap/spare.h"
 #include "shadow/shadow.h"
-#include "stream/losing.h"
+#include "stream/keeping.h"
 #include "stream/record.h"
 #include "stream/side.h"
 #include "stream/state.h"

@@ -11,7 +11,7 @@
 #include "heap/heap.h"
 #include "heap/shards.h"
 #include "heap/spare.h"
-#include "stream/losing.h"
+#include "stream/keeping.h"
 #include "stream/side.h"
 #include "stream/state.h"
 

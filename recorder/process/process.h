@@ -4,7 +4,7 @@
 
 #include <stdbool.h>
 
-#include "stream/tail.h"
+#include "stream/keeping.h"
 
 struct settings;
 

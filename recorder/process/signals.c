@@ -18,7 +18,7 @@
 #include "process/signal_stack.h"
 #include "shadow/mapping.h"
 #include "stream/faults.h"
-#include "stream/losing.h"
+#include "stream/keeping.h"
 #include "stream/side.h"
 
 enum { LAST_SIGNAL = 64 };

@@ -6,7 +6,7 @@
 #include "environment/other_threads.h"
 #include "stream/growing.h"
 #include "stream/holes.h"
-#include "stream/left_out.h"
+#include "stream/keeping.h"
 #include "stream/locked.h"
 #include "stream/side.h"
 #include "stream/state.h"
@@ -44,7 +44,7 @@ static enum finish finish_of_records(uint64_t end, uint64_t limit, enum finish f
     bool is_whole = locked.checked == end || locked.checked_events == limit;
     /* The thread is not gone: it was interrupted by what has brought this end, or it sleeps. */
     if (ending == ENDING_SEGMENT && holes != 0) {
-        left_out_add();
+        keeping_leave_out();
         is_whole = false;
     }
     if (!is_whole || atomic_load(&shared.has_missed))

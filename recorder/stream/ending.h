@@ -6,7 +6,7 @@
 #include <stdint.h>
 
 #include "common/format.h"
-#include "stream/tail.h"
+#include "stream/keeping.h"
 
 /* How a stream ends whose cursor this was: with FINISH_AT_LIMIT if events were left out. In a stream that has segments
    an event past the limit is not lost: its thread writes it in the next one. */

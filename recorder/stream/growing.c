@@ -1,7 +1,7 @@
 #include "stream/growing.h"
 
 #include "stream/locked.h"
-#include "stream/losing.h"
+#include "stream/keeping.h"
 #include "stream/sending.h"
 #include "stream/windows.h"
 
@@ -21,7 +21,7 @@ bool growing_to(uint64_t end)
     while (!has_room(end)) {
         const char *why = grow();
         if (why != NULL) {
-            losing_give_up(why);
+            keeping_give_up(why);
             return false;
         }
     }

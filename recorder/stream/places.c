@@ -6,12 +6,11 @@
 #include "stream/ending.h"
 #include "stream/growing.h"
 #include "stream/holes.h"
-#include "stream/left_out.h"
+#include "stream/keeping.h"
 #include "stream/locked.h"
 #include "stream/side.h"
 #include "stream/state.h"
 #include "stream/switching.h"
-#include "stream/tail.h"
 #include "stream/windows.h"
 #include "stream/writing.h"
 
@@ -65,7 +64,7 @@ static bool may_be_on(enum state state)
         above.say_child();
         return false;
     case STATE_AT_LIMIT:
-        left_out_add();
+        keeping_leave_out();
         return false;
     default:
         return false;
@@ -124,7 +123,7 @@ static enum room pass_limit(uint64_t cursor, bool is_of_heap)
     } else if ((cursor - CURSOR_ON) >> 32 == plan.settings->limit) {
         ending_at_limit((uint32_t)cursor);
     }
-    left_out_add();
+    keeping_leave_out();
     return NO_ROOM;
 }
 

@@ -11,7 +11,7 @@
 #include "libc/library.h"
 #include "stream/holes.h"
 #include "stream/locked.h"
-#include "stream/losing.h"
+#include "stream/keeping.h"
 #include "stream/side.h"
 #include "stream/state.h"
 
@@ -85,7 +85,7 @@ static void send_now(bool is_closing)
         return;
     const char *why = is_on() ? sending_push(is_closing) : NULL;
     if (why != NULL)
-        losing_give_up(why);
+        keeping_give_up(why);
     stream_unlock();
 }
 

@@ -23,6 +23,12 @@
    OFF        Nothing is recorded: not wanted, ended, or lost. The stream ends after its last whole record.
    CLOSED     A socket's close was sent. Later bad accesses are reported by a line (is_late).
 
+   Who goes from state to state: opening.c (to RECORDING), switching.c with windows.c and segments.c (SWITCHING),
+   suspending.c (SUSPENDED), ending.c (AT_LIMIT, CLOSED) and keeping.c (OFF, and what stands at the end).
+   While RECORDING: record.c, regions.c, watched.c, stated.c and stating.c record; places.c gives them places, and
+   growing.c room; holes.c fills empty ones, and sending.c and output.c write them. Beside the stream stand faults.c,
+   fault_list.c, findings.c, near.c, lists.c, thread_list.c, maps.c and modules.c, in side.c's memory.
+
    What follows from a change is here too: a stream that has ended while the process goes on holds no freed blocks for
    the checker any more.
 

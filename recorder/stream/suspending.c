@@ -2,10 +2,9 @@
 
 #include "stream/ending.h"
 #include "stream/locked.h"
-#include "stream/losing.h"
+#include "stream/keeping.h"
 #include "stream/side.h"
 #include "stream/state.h"
-#include "stream/tail.h"
 
 /* The lock of the stream is held. If the stream was lost meanwhile, its state is another one. */
 static bool is_suspended;
@@ -33,7 +32,7 @@ static void go_on(void)
     }
     const char *why = is_file() ? output_extend(&locked.trace, length_to(atomic_load(&STREAM->ready))) : NULL;
     if (why != NULL) {
-        losing_give_up(why);
+        keeping_give_up(why);
         return;
     }
     tail_take_close_away();

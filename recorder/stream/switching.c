@@ -13,13 +13,12 @@
 #include "stream/growing.h"
 #include "stream/holes.h"
 #include "stream/locked.h"
-#include "stream/losing.h"
+#include "stream/keeping.h"
 #include "stream/opening.h"
 #include "stream/segments.h"
 #include "stream/side.h"
 #include "stream/state.h"
 #include "stream/stated.h"
-#include "stream/tail.h"
 #include "stream/windows.h"
 
 static _Thread_local bool is_switching;
@@ -82,7 +81,7 @@ static bool leave_file(uint64_t cursor, unsigned window)
     static AS_TABLE struct outputs next; /* the lock is held */
     const char *why = open_next(&next, window);
     if (why != NULL) {
-        losing_give_up_at(cursor, why);
+        keeping_give_up_at(cursor, why);
         return false;
     }
     if (!finish_segment(cursor)) {

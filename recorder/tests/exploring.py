@@ -24,8 +24,8 @@ from testing.watch import LONGEST
 # The sources that threads run at once, and the explorer.
 SOURCES = [f"{RECORDER}/stream/{it}.c" for it in ("state", "record", "regions", "places", "watched", "stated",
                                                   "stating",
-                                                  "opening", "growing", "sending", "switching", "suspending", "holes",
-                                                  "tail", "left_out", "ending", "losing", "segments")]
+                                                  "opening", "growing", "keeping", "sending", "switching",
+                                                  "suspending", "holes", "ending", "segments")]
 SOURCES.append(f"{RECORDER}/heap/snapshot.c")
 WORLD, EXPLORER = f"{TESTS}/explore/world.c", f"{TESTS}/explore/explore.c"
 FLAGS = ["-std=gnu11", "-g", "-O1", "-D_GNU_SOURCE=", "-fno-strict-aliasing", "-iquote", RECORDER, "-iquote",

@@ -26,7 +26,7 @@
 #include "heap/heap.h"
 #include "shadow/mapping.h"
 #include "shadow/unused.h"
-#include "stream/losing.h"
+#include "stream/keeping.h"
 #include "stream/record.h"
 #include "stream/side.h"
 

@@ -31,7 +31,7 @@
 #include "stream/ending.h"
 #include "stream/faults.h"
 #include "stream/findings.h"
-#include "stream/left_out.h"
+#include "stream/keeping.h"
 #include "stream/locked.h"
 #include "stream/near.h"
 #include "stream/opening.h"

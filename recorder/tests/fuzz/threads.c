@@ -18,7 +18,7 @@
 #include "environment/hub_word.h"
 #include "stream/ending.h"
 #include "stream/faults.h"
-#include "stream/left_out.h"
+#include "stream/keeping.h"
 #include "stream/opening.h"
 #include "stream/record.h"
 #include "stream/regions.h"
