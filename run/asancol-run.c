@@ -17,7 +17,7 @@
 #include "checkers.h"
 #include "common/standard.h"
 #include "children.h"
-#include "collect.h"
+#include "loop.h"
 #include "command.h"
 #include "deaths.h"
 #include "descendants.h"
@@ -234,7 +234,7 @@ static enum report_answer conclude(const struct options *options, const struct s
     }
     report_finish(end);
     if (report_was_started()) {
-        collect_report();
+        loop_wait_for_report();
         answer = report_answer();
         if (answer == ANSWER_CLEAN || answer == ANSWER_REPORTS || answer == ANSWER_INCOMPLETE
             || answer == ANSWER_NOT_WRITTEN)
@@ -350,10 +350,10 @@ static int check_files(const struct options *options)
     int signals = signals_open();
     signals_ignore_writes();
     report_begin(options);
-    collect_files(options, signals);
+    loop_check_files(options, signals);
     struct run_end end = {.notes = lowered_lines(options, false)};
     report_finish(&end);
-    collect_report();
+    loop_wait_for_report();
     return 0;
 }
 
@@ -373,7 +373,7 @@ int main(int count, char **argv)
     nested_begin();
     double started = now();
     pid_t command = start(&options, &signals);
-    struct collected collected = collect(&options, command, signals);
+    struct collected collected = loop_run(&options, command, signals);
     struct sum sum = sum_up(&options, command, collected.status);
     struct nested nested = nested_found();
     struct run_end end = {

@@ -1,6 +1,6 @@
 /* The time from the start of the command until all is checked. */
-#ifndef ASANCOL_RUN_COLLECT_H
-#define ASANCOL_RUN_COLLECT_H
+#ifndef ASANCOL_RUN_LOOP_H
+#define ASANCOL_RUN_LOOP_H
 
 #include <stdbool.h>
 #include <sys/types.h>
@@ -15,10 +15,10 @@ struct collected {
 };
 
 /* Accepts and checks what comes, until the command has ended and nothing is left of it, or --wait is over. */
-struct collected collect(const struct options *options, pid_t command, int signals);
+struct collected loop_run(const struct options *options, pid_t command, int signals);
 /* Checks traces in files, which are segments of one process: of each NUMBER:PATH. */
-void collect_files(const struct options *options, int signals);
+void loop_check_files(const struct options *options, int signals);
 /* Waits until asancol-report has ended, or has all, if it was there before. */
-void collect_report(void);
+void loop_wait_for_report(void);
 
 #endif

@@ -1,5 +1,5 @@
 #define _GNU_SOURCE
-#include "collect.h"
+#include "loop.h"
 
 #include <dirent.h>
 #include <errno.h>
@@ -301,7 +301,7 @@ static int poll_used(struct pollfd *polls, size_t count, int timeout)
 }
 
 /* Waits once, at most so long, and does what there is to do. */
-static void turn(double seconds)
+static void wait_once(double seconds)
 {
     struct pollfd polls[MOST_POLLS];
     bool is_short = now() < run.short_until, accepts = has_room();
@@ -366,7 +366,7 @@ static void cut_all(double time)
     for_each_segment(cut_segment);
 }
 
-static void look(double time)
+static void refresh_left(double time)
 {
     if (run.ended != 0 && time >= run.look_at) {
         run.is_left = descendants_left();
@@ -384,10 +384,10 @@ static void show_progress(double time)
 }
 
 /* Does what its time has come for, and answers how long nothing else will. */
-static double act(void)
+static double do_due(void)
 {
     double time = now(), next = time + LOOK;
-    look(time);
+    refresh_left(time);
     bool is_killing = run.timeout_at != 0 && (run.ended == 0 || (run.kill_at != 0 && run.is_left));
     if (is_killing && time >= run.timeout_at)
         stop_command(time);
@@ -414,7 +414,7 @@ static bool is_over(void)
 {
     if (run.ended == 0)
         return false;
-    look(now());
+    refresh_left(now());
     bool is_killing = run.kill_at != 0 && now() < run.kill_at + GRACE;
     if (run.is_left && (run.cut == 0 || is_killing))
         return false;
@@ -426,13 +426,13 @@ static bool is_over(void)
 static void wait_for_room(void)
 {
     while (segment_live_count() >= FILES_AT_ONCE)
-        turn(LOOK);
+        wait_once(LOOK);
 }
 
 static void start_file(struct segment *segment)
 {
     while (!checker_start_file(segment))
-        turn(SHORTAGE);
+        wait_once(SHORTAGE);
 }
 
 /* Checks a trace of a process that did not reach the hub. */
@@ -449,7 +449,7 @@ static void check_file(const char *name)
     start_file(segment);
 }
 
-void collect_files(const struct options *options, int signals)
+void loop_check_files(const struct options *options, int signals)
 {
     struct process *process = NULL;
     run.options = options;
@@ -468,7 +468,7 @@ void collect_files(const struct options *options, int signals)
         start_file(segment);
     }
     while (segment_live_count() > 0)
-        turn(LOOK);
+        wait_once(LOOK);
     checker_sum_up(process);
 }
 
@@ -495,11 +495,11 @@ static void check_files(void)
     if (entries != NULL)
         closedir(entries);
     while (segment_live_count() > 0)
-        turn(LOOK);
+        wait_once(LOOK);
     marks_take();
 }
 
-struct collected collect(const struct options *options, pid_t command, int signals)
+struct collected loop_run(const struct options *options, pid_t command, int signals)
 {
     run.options = options;
     run.command = command;
@@ -509,7 +509,7 @@ struct collected collect(const struct options *options, pid_t command, int signa
     hold_processes();
     modules_allow(run.descriptors / 4);
     while (!is_over())
-        turn(act());
+        wait_once(do_due());
     hub_stop();
     peers_say_rest();
     check_files();
@@ -517,8 +517,8 @@ struct collected collect(const struct options *options, pid_t command, int signa
     return (struct collected){run.status, descendants_left(), run.has_timed_out};
 }
 
-void collect_report(void)
+void loop_wait_for_report(void)
 {
     while (report_is_running() || report_poll().fd >= 0)
-        turn(LOOK);
+        wait_once(LOOK);
 }
