@@ -3,7 +3,7 @@
 import re
 from typing import List, NamedTuple, Tuple
 
-from asancol_report.verdicts import REPORT, Report, report_of
+from asancol_report.verdicts import REPORT, Line, line_of
 from .expectations import Failure
 
 END = re.compile(rb"p\d+ end ([a-z -]+?)(?: (?:events|checked) (\d+))?(?: offset \d+)?(?: reports (\d+))?")
@@ -17,13 +17,13 @@ class End(NamedTuple):
     reports: int
 
 
-def lines_of(text: bytes, is_whole: bool = True) -> Tuple[List[Report], List[End]]:
+def lines_of(text: bytes, is_whole: bool = True) -> Tuple[List[Line], List[End]]:
     """Returns the reports and the ends. Another line is a failure, or left out if the text need not be whole."""
     reports, ends = [], []
     for line in text.splitlines():
         report, end = REPORT.fullmatch(line), END.fullmatch(line)
         if report:
-            reports.append(report_of(report))
+            reports.append(line_of(report))
         elif end:
             ends.append(End(end[1].decode(), int(end[2] or 0), int(end[3] or 0)))
         elif is_whole:

@@ -24,7 +24,7 @@ from .side import (
 from .sources import Sources
 from .symbols import Symbols
 from .variables import declaration_of, variables_of
-from .verdicts import Report, Verdicts
+from .verdicts import Line, Verdicts
 
 NO_PLACE = "its place was not recorded"
 NO_ALLOCATION = "before the trace began"
@@ -330,7 +330,7 @@ def finding_alone(sighting: Sighting, run: int) -> Finding:
     return finding
 
 
-def finding_of(report: Report, fault: Optional[Fault]) -> Finding:
+def finding_of(report: Line, fault: Optional[Fault]) -> Finding:
     finding = Finding(report.class_name, report.access, report.size, report.address, report.bad)
     finding.shadow = report.shadow
     finding.block = block_of(fault)

@@ -21,7 +21,7 @@ PIECE = 1 << 20
 MAX_LINE_LENGTH = 1 << 12
 
 
-class Report(NamedTuple):
+class Line(NamedTuple):
     """What a line says of a bad event."""
 
     event: int
@@ -44,7 +44,7 @@ class Group:
 
     __slots__ = ("fault", "count", "first")
 
-    def __init__(self, fault: int, first: Report) -> None:
+    def __init__(self, fault: int, first: Line) -> None:
         self.fault = fault
         self.count = 0  # without further pieces
         self.first = first
@@ -67,9 +67,9 @@ def lines_of(descriptor: int) -> Iterator[List[bytes]]:
         yield lines
 
 
-def report_of(found: re.Match[bytes]) -> Report:
+def line_of(found: re.Match[bytes]) -> Line:
     event, access, size, address, bad, class_name, shadow = found.groups()
-    return Report(
+    return Line(
         int(event),
         access.decode(),
         int(size) if size else None,
@@ -113,7 +113,7 @@ class Verdicts:
         key = (fault, access, b"" if fault or access == b"malloc" else size or b"", class_name)
         group = self.groups.get(key)
         if group is None:
-            group = self.groups[key] = Group(fault, report_of(found))
+            group = self.groups[key] = Group(fault, line_of(found))
         return group
 
     def take_other(self, line: bytes) -> None:
