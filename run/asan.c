@@ -1,3 +1,5 @@
+/* Each word of the two variables goes to one function by the row of its option. Its effect is counted by kind, and said
+   in one line for each variable. */
 #define _GNU_SOURCE
 #include "asan.h"
 

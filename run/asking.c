@@ -1,3 +1,4 @@
+/* An array of connections that have not asked yet, each with its deadline. */
 #define _GNU_SOURCE
 #include "asking.h"
 

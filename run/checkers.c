@@ -1,3 +1,5 @@
+/* A segment goes from pending to running to done: checker_start, checker_has_ended, finish. What all checkers share,
+   their program and options, is in `checkers`. */
 #define _GNU_SOURCE
 #include "checkers.h"
 

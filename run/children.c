@@ -1,3 +1,4 @@
+/* A hash table by number, with the role and the owner of each. */
 #define _GNU_SOURCE
 #include "children.h"
 

@@ -1,3 +1,4 @@
+/* The child runs in our memory up to its exec (vfork). */
 #define _GNU_SOURCE
 #include "command.h"
 

@@ -1,3 +1,4 @@
+/* A status for each number of a process, in pages of 1,024; others are asked of /proc. */
 #define _GNU_SOURCE
 #include "deaths.h"
 

@@ -1,3 +1,5 @@
+/* All of /proc is read into an array ordered by number, and lines of parents are followed in that. `inherited` are
+   those that were there before the command. */
 #define _GNU_SOURCE
 #include "descendants.h"
 

@@ -1,3 +1,4 @@
+/* The last 255 bytes are read, and the line is taken apart word by word. */
 #define _GNU_SOURCE
 #include "end_line.h"
 

@@ -1,3 +1,4 @@
+/* One descriptor, opened when the folder was made, with a lock for as long as the run lives. */
 #define _GNU_SOURCE
 #include "folder.h"
 

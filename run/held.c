@@ -1,3 +1,4 @@
+/* A list in the order of time, and an epoll that tells of each once. */
 #define _GNU_SOURCE
 #include "held.h"
 

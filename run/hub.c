@@ -1,3 +1,4 @@
+/* Two sockets for recordings and two for questions. The kernel's credentials of a connection identify the process. */
 #define _GNU_SOURCE
 #include "hub.h"
 

@@ -1,3 +1,4 @@
+/* A `tee` copies a segment's trace before its checker; at the end the copy is dropped if nobody needs it. */
 #define _GNU_SOURCE
 #include "keep.h"
 

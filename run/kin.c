@@ -1,3 +1,5 @@
+/* Two passes at the end: children look for their parents in a sorted array, and then processes for the programs that
+   they became. */
 #define _GNU_SOURCE
 #include "kin.h"
 

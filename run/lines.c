@@ -1,3 +1,4 @@
+/* Lines in the order of their first process, and a tree of them by text, so that the same text is said once. */
 #define _GNU_SOURCE
 #include "lines.h"
 

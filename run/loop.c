@@ -1,3 +1,6 @@
+/* One poll of a fixed number of descriptors, however many processes there are: wait_once waits and takes what came,
+   do_due does what its time has come for and says when the next is due. `run` has the times. Nothing here blocks but
+   that poll. */
 #define _GNU_SOURCE
 #include "loop.h"
 

@@ -1,3 +1,4 @@
+/* At most 16 lines, each with how many processes it is of. */
 #define _GNU_SOURCE
 #include "lowered.h"
 

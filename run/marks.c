@@ -1,3 +1,5 @@
+/* The names in the folder are gone over kind by kind: killed, unseen, expected. Each finds its process by its
+   number. */
 #define _GNU_SOURCE
 #include "marks.h"
 

@@ -1,3 +1,4 @@
+/* A hash table by inode, with a count of the processes that have each. */
 #define _GNU_SOURCE
 #include "modules.h"
 

@@ -1,3 +1,4 @@
+/* Stateless: a text is expanded at its percent signs, and folders are tried in order. */
 #define _GNU_SOURCE
 #include "names.h"
 

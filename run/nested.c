@@ -1,3 +1,4 @@
+/* Up to three files in the folder of the outer run: their names are the message. */
 #define _GNU_SOURCE
 #include "nested.h"
 

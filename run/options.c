@@ -1,3 +1,5 @@
+/* The table generated from options/asancol-run.options (option_table.h): a row has the field that an option sets and
+   its range, or the program that gets it. */
 #define _GNU_SOURCE
 #include "options.h"
 

@@ -1,3 +1,5 @@
+/* A run is found by ASANCOL_HUB, or by the mark in the timer slack (common/inherited.h), and asked once; its settings
+   stay in `answer`. */
 #define _GNU_SOURCE
 #include "outer.h"
 

@@ -1,3 +1,5 @@
+/* An array in the order of connections, and two hash tables of 65,536 buckets: by the number that the kernel gives the
+   peer, and by the one that the process has for itself. */
 #define _GNU_SOURCE
 #include "processes.h"
 

@@ -1,3 +1,5 @@
+/* A queue of messages, of which most have no text until they are sent: text and descriptors are a parcel. `raw` has the
+   first lines of 20 processes, if asancol-report cannot run. */
 #define _GNU_SOURCE
 #include "report.h"
 

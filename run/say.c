@@ -1,3 +1,4 @@
+/* All lines go by one function, to standard error and to the log. */
 #define _GNU_SOURCE
 #include "say.h"
 

@@ -1,3 +1,5 @@
+/* A hash table of processes by their own number and start, by which a segment finds its process; there segments stand
+   in their order. */
 #define _GNU_SOURCE
 #include "segments.h"
 

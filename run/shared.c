@@ -1,3 +1,5 @@
+/* One batch that waits, of at most 64 streams in files without a name, and a list of those that need a checker of their
+   own. */
 #define _GNU_SOURCE
 #include "shared.h"
 

@@ -1,3 +1,5 @@
+/* The first 8 KiB are mapped, read-only, of a memory that is sealed against shrinking; each number in it is bounded
+   when it is read. */
 #define _GNU_SOURCE
 #include "side.h"
 

@@ -1,3 +1,4 @@
+/* Signals are read from a signalfd; those for the command are passed on. */
 #define _GNU_SOURCE
 #include "signals.h"
 

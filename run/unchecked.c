@@ -1,3 +1,5 @@
+/* Two lists of names, of the user's modules and of the system's; and the list that came last, since most processes have
+   the same. */
 #define _GNU_SOURCE
 #include "unchecked.h"
 

@@ -1,3 +1,5 @@
+/* facts_of collects the facts about a segment as bits, and the first row of judgement_rows.h that fits gives the answer
+   and the reason. The table `words` has the words in capitals. */
 #define _GNU_SOURCE
 #include "verdict.h"
 

@@ -1,3 +1,5 @@
+/* Stateless. An attempt that fails for the process's limit is repeated once under the highest limit allowed, and the
+   limit is restored. */
 #define _GNU_SOURCE
 #include "base/descriptors.h"
 

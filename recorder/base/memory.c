@@ -1,3 +1,5 @@
+/* By three calls of the system, which answer where a load would fault: process_vm_readv copies, rt_sigprocmask looks at
+   one page, and MADV_POPULATE_READ at many. */
 #define _GNU_SOURCE
 #include "base/memory.h"
 

@@ -1,3 +1,5 @@
+/* Goes up to the first asancol-run among at most 64 processes, and reads ASANCOL_HUB from /proc/PID/environ of those
+   below it. */
 #define _GNU_SOURCE
 #include "environment/ancestors.h"
 

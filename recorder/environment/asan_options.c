@@ -1,3 +1,5 @@
+/* Four texts, kept by address, of which the last word for an option counts; and the lines that go beside the trace,
+   made once at the start. */
 #include "environment/asan_options.h"
 
 #include "base/platform.h"

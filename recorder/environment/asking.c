@@ -1,3 +1,4 @@
+/* One connection for each question: the request is sent whole, and the answer read to its end, within one patience. */
 #define _GNU_SOURCE
 #include "environment/asking.h"
 

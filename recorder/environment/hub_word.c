@@ -1,3 +1,5 @@
+/* A mark is a symbolic link PID.END in the hub's folder, with a program and a reason as its text. If that cannot be
+   made, the hub is sent a message (asking.c). */
 #define _GNU_SOURCE
 #include "environment/hub_word.h"
 

@@ -1,3 +1,5 @@
+/* Candidates, in this order: names of abstract sockets in /proc/net/unix, folders of runs in the usual places, and hubs
+   of the ancestors (ancestors.c). A candidate must have the mark that the inherited timer slack names. */
 #define _GNU_SOURCE
 #include "environment/orphan.h"
 

@@ -1,3 +1,5 @@
+/* One pass over the environment looks for unknown names; then each setting is looked up there, or in the answer of the
+   run (orphan.c). */
 #define _GNU_SOURCE
 #include "environment/settings.h"
 

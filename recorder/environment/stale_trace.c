@@ -1,3 +1,5 @@
+/* The run began when the outermost process above that has ASANCOL_TRACE was started, by /proc/PID/stat. A file counts
+   from its birth, or else its last write. */
 #define _GNU_SOURCE
 #include "environment/stale_trace.h"
 

@@ -1,3 +1,5 @@
+/* Each thread has a visit, and the list of what handlers have freed meanwhile. Whoever needs all closes the gate, sees
+   that each shard is left, and takes central. This file alone changes who is in. */
 #include "heap/entering.h"
 
 #include <limits.h>

@@ -1,3 +1,4 @@
+/* No table: the family is in the block's note, and a caller is judged by the instruction before its return address. */
 #define _GNU_SOURCE
 #include "heap/families.h"
 

@@ -1,3 +1,5 @@
+/* A free forward changes the block's note in one step, and then the shadow. One in order is done with all, and goes to
+   the quarantine. */
 #include "heap/freeing.h"
 
 #include <errno.h>

@@ -1,3 +1,4 @@
+/* A list through the notes of held blocks, oldest first, and for each class one of free slots. */
 #include "heap/quarantine.h"
 
 #include "heap/heap.h"

@@ -1,3 +1,6 @@
+/* A unit goes from closed to retired, given back and forgotten; or, if half of its slots were freed, to a list from
+   which it is opened again. Regions count their units that are retired and forgotten. All but the counts in a unit is
+   changed with central. */
 #define _GNU_SOURCE
 #include "heap/retiring.h"
 

@@ -1,3 +1,5 @@
+/* A text is a room that is filled up to its end. An address is in the shadow's maps, in a block or near one, on this
+   thread's stack, or in a global. */
 #define _GNU_SOURCE
 #include "interface/describing.h"
 

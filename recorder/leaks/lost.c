@@ -1,3 +1,5 @@
+/* A table of groups by call site and kind, which is then sorted in its place: direct leaks first, the most bytes
+   first. */
 #define _GNU_SOURCE
 #include "leaks/lost.h"
 

@@ -1,3 +1,5 @@
+/* A byte for each block, and a stack of those that were reached and not looked through. No recursion, and no memory of
+   the allocator's. */
 #define _GNU_SOURCE
 #include "leaks/marking.h"
 

@@ -1,3 +1,4 @@
+/* A table of 4,096 entries. What of a region is there is asked of the map of the process when leaks are looked for. */
 #define _GNU_SOURCE
 #include "leaks/root_regions.h"
 

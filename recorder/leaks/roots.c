@@ -1,3 +1,4 @@
+/* No list of roots: each is visited, and its words are marked at once (marking.h). All other threads stand still. */
 #define _GNU_SOURCE
 #include "leaks/roots.h"
 

@@ -1,3 +1,5 @@
+/* `library` is filled once, by the names of the table `wanted`, from the loader's list of objects. Until then its
+   functions do nothing. */
 #define _GNU_SOURCE
 #include "libc/library.h"
 

@@ -1,3 +1,4 @@
+/* Nothing is copied: a struct object points into the object's own tables, and a search walks one hash chain. */
 #define _GNU_SOURCE
 #include "libc/objects.h"
 

@@ -1,3 +1,5 @@
+/* The file that the system would run is found as execvp finds it, its note is read (link_mark.h), and the word is left
+   with the hub (hub_word.h). It may run in a child of vfork, so nothing is kept. */
 #define _GNU_SOURCE
 #include "process/exec_notice.h"
 

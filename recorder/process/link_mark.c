@@ -1,3 +1,5 @@
+/* The first 1,024 bytes of a file say whether it is a program, whose segments of notes are read, or a script, whose
+   interpreter is looked at in its place. */
 #define _GNU_SOURCE
 #include "process/link_mark.h"
 

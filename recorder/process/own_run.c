@@ -1,3 +1,4 @@
+/* At the start, a program without an output becomes asancol-run by execve, with its own command line as the command. */
 #define _GNU_SOURCE
 #include "process/own_run.h"
 

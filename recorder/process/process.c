@@ -1,3 +1,5 @@
+/* `process` has the settings, and the state before a fork. Whatever starts, halts, forks or ends a recording comes
+   here, and continues to the stream, the allocator and the hub. */
 #define _GNU_SOURCE
 #include "process/process.h"
 

@@ -1,3 +1,5 @@
+/* Each signal has one of three actions: the recorder's, in place of the default; the recorder's before the program's
+   handler of a fault; or the program's. sigaction hides the recorder's. */
 #define _GNU_SOURCE
 #include "process/signals.h"
 

@@ -1,3 +1,5 @@
+/* A list of lines beside the stream, made anew from the map of modules and the notes of their links when modules have
+   changed. */
 #define _GNU_SOURCE
 #include "process/unchecked.h"
 

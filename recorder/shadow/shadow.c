@@ -1,3 +1,4 @@
+/* Whole granules are filled by pages, and the two at the ends one by one, by the rules of docs/inside/MODEL.md. */
 #define _GNU_SOURCE
 #include "shadow/shadow.h"
 

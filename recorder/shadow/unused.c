@@ -1,3 +1,4 @@
+/* One file of 4 MB that is mapped at each part of the shadow that says "poison". */
 #define _GNU_SOURCE
 #include "shadow/unused.h"
 

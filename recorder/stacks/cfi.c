@@ -1,3 +1,5 @@
+/* From the address to the module's table (.eh_frame_hdr), by a binary search to the description of the function, and by
+   running its program up to the instruction to one rule, which unwinding.c keeps. */
 #define _GNU_SOURCE
 #include "stacks/cfi.h"
 

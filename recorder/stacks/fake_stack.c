@@ -1,3 +1,5 @@
+/* A slot of 16 MB for each thread that takes frames: its head and the flags of all frames, and a part of 1 MB for each
+   of 11 classes of size. Slots of threads that have ended are a list without a lock. */
 #define _GNU_SOURCE
 #include "stacks/fake_stack.h"
 

@@ -1,3 +1,5 @@
+/* An array of words, of which only the end moves, and a hash table of the stacks in it. Both are without a lock: who
+   loses a place in the table looks again. */
 #define _GNU_SOURCE
 #include "stacks/stacks.h"
 

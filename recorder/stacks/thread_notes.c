@@ -1,3 +1,4 @@
+/* An array by the numbers of threads, which are given in order and never again. */
 #define _GNU_SOURCE
 #include "stacks/thread_notes.h"
 

@@ -1,3 +1,5 @@
+/* A table of rules by address, four places to a line of the cache, where a rule is mixed into its key; and for a walk
+   the registers, and what of the stack can be read. */
 #include "stacks/unwinding.h"
 
 #include <stdatomic.h>

@@ -1,3 +1,5 @@
+/* 256 places for what a thread knows. Each has walks by their hash, and behind one another the pairs of words that they
+   have read. */
 #include "stacks/walks.h"
 
 #include "base/platform.h"

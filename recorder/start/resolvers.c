@@ -1,3 +1,5 @@
+/* Counts the relocations of the program that ask a resolver, before any of them is called: its tables are read as they
+   lie in the file. */
 #define _GNU_SOURCE
 #include "start/preinit.h"
 

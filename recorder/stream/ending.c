@@ -1,3 +1,5 @@
+/* Each way goes by the same steps: the state is left, the records are gone over up to the end (holes.c), the tail is
+   put (keeping.h), and what stands beside it says how it ended: ending_at. */
 #include "stream/ending.h"
 
 #include "base/disturbance.h"

@@ -1,3 +1,5 @@
+/* The entries lie beside the stream, and `known` is a hash table of their numbers, for the newest list. An entry is
+   taken by its number first, and filled then. */
 #define _GNU_SOURCE
 #include "stream/fault_list.h"
 

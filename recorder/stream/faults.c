@@ -1,3 +1,5 @@
+/* From an access to the number of its fault: by a hash of the access, then of its nearest block or variable, and then
+   by the list (fault_list.h). `recent` spares a loop all but the first. */
 #define _GNU_SOURCE
 #include "stream/faults.h"
 

@@ -1,3 +1,5 @@
+/* A finding becomes an entry as a fault does, in the newest window, and is counted beside it; if the stream has gone on
+   in its next segment meanwhile, in that too. */
 #define _GNU_SOURCE
 #include "stream/findings.h"
 

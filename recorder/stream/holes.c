@@ -1,3 +1,5 @@
+/* Goes over the records from `checked` on. A byte of zero is a record that is not written yet: it is waited for, and
+   then its place is taken by a record that says nothing, whose length is that after which the next ones look sound. */
 #define _GNU_SOURCE
 #include "stream/holes.h"
 

@@ -1,3 +1,5 @@
+/* A `struct list` for each window: where it lies, and how many entries, threads and words are taken. Only the counts
+   are contended, and they only grow. */
 #define _GNU_SOURCE
 #include "stream/lists.h"
 

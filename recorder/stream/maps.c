@@ -1,3 +1,4 @@
+/* No state: lines of /proc/self/maps taken apart, and notes of ELF files that are mapped. */
 #define _GNU_SOURCE
 #include "stream/maps.h"
 

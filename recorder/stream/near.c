@@ -1,3 +1,4 @@
+/* Nothing is kept but the frames' descriptions that were put among the stacks last (`descriptions`). */
 #define _GNU_SOURCE
 #include "stream/near.h"
 

@@ -1,3 +1,4 @@
+/* Fills `locked` and `plan` in the state STARTING: first the trace, then the side memory, then the header. */
 #define _GNU_SOURCE
 #include "stream/opening.h"
 

@@ -1,3 +1,5 @@
+/* An output is a window of memory, backed by a mapped file, or by a descriptor that is sent pieces. It knows lengths,
+   and nothing of records. */
 #define _GNU_SOURCE
 #include "stream/output.h"
 

@@ -1,3 +1,5 @@
+/* A place that was taken is past `ready`, past the limit, or in a stream that is off: each is an answer of `enum room`,
+   and the thread tries again, or leaves the event out. */
 #define _GNU_SOURCE
 #include "stream/places.h"
 

@@ -1,3 +1,5 @@
+/* A region takes one place for its record, and is left out if it can't be spelled; only memory that is unused is cut
+   into pieces. */
 #include "stream/regions.h"
 
 #include "stream/holes.h"

@@ -1,3 +1,4 @@
+/* Two numbers in `shared`: when something was sent last, and how often at once since then. */
 #define _GNU_SOURCE
 #include "stream/sending.h"
 

@@ -1,3 +1,5 @@
+/* `current` is the memory of the newest window (struct side in common/format.h). The lock's holder writes most of it
+   once; fields that any thread writes are one word each. */
 #define _GNU_SOURCE
 #include "stream/side.h"
 

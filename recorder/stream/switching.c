@@ -1,3 +1,5 @@
+/* For files the next segment opens before this one ends; for connections this one ends first. In both the window
+   changes last, by which other threads notice it. */
 #define _GNU_SOURCE
 #include "stream/switching.h"
 

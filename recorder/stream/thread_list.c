@@ -1,3 +1,4 @@
+/* A table of struct side_thread, in which a thread has the place that its number says, or the next one that is free. */
 #define _GNU_SOURCE
 #include "stream/thread_list.h"
 

@@ -1,3 +1,5 @@
+/* Three looks: at the shadow, at the nearest block or variable, and, with the place taken, at whether the segment is
+   still that of the first (`struct moment`). If it is not, all begins anew. */
 #define _GNU_SOURCE
 #include "stream/watched.h"
 

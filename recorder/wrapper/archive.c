@@ -1,3 +1,4 @@
+/* A walk over the headers of members, with the member of long names at hand. */
 #define _GNU_SOURCE
 #include "wrapper/archive.h"
 

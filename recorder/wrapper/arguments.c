@@ -1,3 +1,5 @@
+/* Two tables of words, `linker_words` and `options`: a row says where the value stands, and which field of the request
+   it sets or which function takes it. */
 #define _GNU_SOURCE
 #include "wrapper/arguments.h"
 

@@ -1,3 +1,5 @@
+/* A hash table of the names in the archive's index, and of an object its tables of symbols, to which new texts are
+   appended. */
 #define _GNU_SOURCE
 #include "wrapper/checked_names.h"
 

@@ -1,3 +1,4 @@
+/* The table `compilers`: all that differs from one to another stands in its rows. */
 #define _GNU_SOURCE
 #include "wrapper/compilers.h"
 

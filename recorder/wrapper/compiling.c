@@ -1,3 +1,4 @@
+/* Stateless: words are added to the command line before the caller's and after them. */
 #define _GNU_SOURCE
 #include "wrapper/compiling.h"
 

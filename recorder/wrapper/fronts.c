@@ -1,3 +1,4 @@
+/* The rows of fronts.def; a name is followed through links until one of them fits. */
 #define _GNU_SOURCE
 #include "wrapper/fronts.h"
 

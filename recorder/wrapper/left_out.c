@@ -1,3 +1,4 @@
+/* The table `checks`: for each check the words of compilers that turn it off. */
 #define _GNU_SOURCE
 #include "wrapper/left_out.h"
 

@@ -1,3 +1,5 @@
+/* A file is looked at by its sections: switches that were noted, symbols that are asked for, texts that are loaded. The
+   result is struct linked. */
 #define _GNU_SOURCE
 #include "wrapper/linked.h"
 

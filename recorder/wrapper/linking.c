@@ -1,3 +1,5 @@
+/* The table `wraps` of all names that the linker wraps, and `is_own` of those that it leaves alone after a first
+   link. */
 #define _GNU_SOURCE
 #include "wrapper/linking.h"
 

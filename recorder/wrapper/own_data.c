@@ -1,3 +1,4 @@
+/* One pass over the symbols of the linker's output. */
 #define _GNU_SOURCE
 #include "wrapper/own_data.h"
 

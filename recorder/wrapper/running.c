@@ -1,3 +1,4 @@
+/* A link runs once or twice: the linker's output, read from a pipe, decides about the second (running_link). */
 #define _GNU_SOURCE
 #include "wrapper/running.h"
 

@@ -1,3 +1,4 @@
+/* A list of the archives that a link has named, with how their members are, and the lines of the note. */
 #define _GNU_SOURCE
 #include "wrapper/taken.h"
 

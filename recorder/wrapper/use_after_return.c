@@ -1,3 +1,4 @@
+/* One pass over the arguments copies all but these words; response files with such a word are rewritten. */
 #define _GNU_SOURCE
 #include "wrapper/use_after_return.h"
 

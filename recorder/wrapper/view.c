@@ -1,3 +1,4 @@
+/* A view is a pointer and a size, and each look into it is bounded. */
 #define _GNU_SOURCE
 #include "wrapper/view.h"
 
