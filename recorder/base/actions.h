@@ -1,4 +1,6 @@
-/* What the system does at a signal. The C library lets nobody handle the signals that it keeps for itself. */
+/* What the system does at a signal. The C library lets nobody handle the signals that it keeps for itself.
+
+   Called: by the signals and the search for leaks, in any thread; no lock. */
 #ifndef ASANCOL_ACTIONS_H
 #define ASANCOL_ACTIONS_H
 

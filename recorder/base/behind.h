@@ -1,4 +1,6 @@
-/* Of functions that a program may have itself: the recorder's, which its dlsym finds behind those (plain.c). */
+/* Of functions that a program may have itself: the recorder's, which its dlsym finds behind those (plain.c).
+
+   Called: by dlsym's check, in any thread; it only reads. */
 #ifndef ASANCOL_BEHIND_H
 #define ASANCOL_BEHIND_H
 

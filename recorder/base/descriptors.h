@@ -1,5 +1,7 @@
 /* Descriptors for the recorder, also where the process has all that it may have: if only its own limit says so, that is
-   higher for a moment. Each answers a new descriptor, or an error. */
+   higher for a moment. Each answers a new descriptor, or an error.
+
+   Called: in any thread, also in a handler; no lock. */
 #ifndef ASANCOL_DESCRIPTORS_H
 #define ASANCOL_DESCRIPTORS_H
 

@@ -1,4 +1,6 @@
-/* Signals and cancellation, kept away from the recorder's own work. */
+/* Signals and cancellation, kept away from the recorder's own work.
+
+   Called: in any thread, also in a handler; no lock. */
 #ifndef ASANCOL_DISTURBANCE_H
 #define ASANCOL_DISTURBANCE_H
 

@@ -1,4 +1,6 @@
-/* The system's errors in words. */
+/* The system's errors in words.
+
+   Called: at any time, also in a handler. */
 #ifndef ASANCOL_ERRORS_H
 #define ASANCOL_ERRORS_H
 

@@ -1,4 +1,6 @@
-/* The recorder's locks. They call nothing of the C library, so a program may have any name for itself. */
+/* The recorder's locks. They call nothing of the C library, so a program may have any name for itself.
+
+   Called: in any thread; who may wait, and in which order, README.md says. */
 #ifndef ASANCOL_LOCK_H
 #define ASANCOL_LOCK_H
 

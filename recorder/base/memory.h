@@ -1,4 +1,6 @@
-/* Reading memory of the process that may be gone at any time, as when another thread closes a library or ends. */
+/* Reading memory of the process that may be gone at any time, as when another thread closes a library or ends.
+
+   Called: at any time, also in a handler; no lock. */
 #ifndef ASANCOL_MEMORY_H
 #define ASANCOL_MEMORY_H
 

@@ -1,5 +1,7 @@
 /* Which code is the recorder's own, so that a fault in there is its mistake. The build (Makefile) gives it a section
-   for itself. The checks of calls and accesses are not there: they touch what the program has given. */
+   for itself. The checks of calls and accesses are not there: they touch what the program has given.
+
+   Called: own_code_has by the handler of faults, the others by the allocator; no lock. */
 #ifndef ASANCOL_OWN_CODE_H
 #define ASANCOL_OWN_CODE_H
 

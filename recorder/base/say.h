@@ -1,4 +1,6 @@
-/* What the recorder has to say. */
+/* What the recorder has to say.
+
+   Called: say_to at the start, say_again in a child, the others at any time, with or without a lock: nothing waits. */
 #ifndef ASANCOL_SAY_H
 #define ASANCOL_SAY_H
 

@@ -1,4 +1,7 @@
-/* Who this process is, and what it has, as far as the recorder's parts ask. */
+/* Who this process is, and what it has, as far as the recorder's parts ask.
+
+   Called: the notes at the start, in a child of a fork and by a constructor; the rest at any time, also in a
+   handler. */
 #ifndef ASANCOL_SELF_H
 #define ASANCOL_SELF_H
 

@@ -2,7 +2,9 @@
    `close`, and then that would be called in the place of the library's.
 
    Each answers what the system does: an error is its number below zero. errno is not touched, nothing is a point of
-   cancellation, and a signal handler may call all of them. */
+   cancellation, and a signal handler may call all of them.
+
+   Called: at any time, also in a handler and in a child of vfork; no lock. */
 #ifndef ASANCOL_SYSTEM_H
 #define ASANCOL_SYSTEM_H
 

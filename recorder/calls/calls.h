@@ -1,4 +1,6 @@
-/* The looks at the shadow that the wrappers of library functions make, and what records the bad pieces. */
+/* The looks at the shadow that the wrappers of library functions make, and what records the bad pieces.
+
+   Called: by the checks of the program's calls, in any thread, also in a handler; no lock of the recorder's is held. */
 #ifndef ASANCOL_CALLS_H
 #define ASANCOL_CALLS_H
 

@@ -1,4 +1,6 @@
-/* The words of the rows of calls.def, and what a row becomes: a stub and a check. Formats have theirs in words.h. */
+/* The words of the rows of calls.def, and what a row becomes: a stub and a check. Formats have theirs in words.h.
+
+   Called: by the program's calls, in any thread, also in a handler; no lock of the recorder's is held. */
 #ifndef ASANCOL_ROWS_H
 #define ASANCOL_ROWS_H
 

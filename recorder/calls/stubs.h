@@ -1,6 +1,8 @@
 /* What the linker calls in the place of a wrapped function: a stub before the check. A program may have a function of
    that name with other parameters. So the stub changes no argument, and asks whether the name is the C library's. Only
-   then it goes to the check; else it goes to the function. */
+   then it goes to the check; else it goes to the function.
+
+   Called: by the program's calls, in any thread, also in a handler, and before the recorder's start. */
 #ifndef ASANCOL_STUBS_H
 #define ASANCOL_STUBS_H
 

@@ -1,6 +1,8 @@
 /* The words of calls.def that are more than those of rows.h, and the rows of formats. Each group of rows is compiled by
    itself (group.c) and uses some of them. A call that is clean leaves no record, and errno is as the function leaves
-   it. */
+   it.
+
+   Called: as those of rows.h. */
 #ifndef ASANCOL_WORDS_OF_ROWS_H
 #define ASANCOL_WORDS_OF_ROWS_H
 

@@ -1,4 +1,6 @@
-/* The processes above this one: who has cleared this one's environment has had it itself, or who has started that. */
+/* The processes above this one: who has cleared this one's environment has had it itself, or who has started that.
+
+   Called: by orphan.c; no lock, and nothing is allocated. */
 #ifndef ASANCOL_ANCESTORS_H
 #define ASANCOL_ANCESTORS_H
 

@@ -1,5 +1,7 @@
 /* What the options of AddressSanitizer say for this process: by ASAN_OPTIONS and LSAN_OPTIONS, and by functions that
-   the program may have. common/asan_options.def lists them. */
+   the program may have. common/asan_options.def lists them.
+
+   Called: asan_options_read once at the start, the rest at any time after that. */
 #ifndef ASANCOL_PROCESS_ASAN_OPTIONS_H
 #define ASANCOL_PROCESS_ASAN_OPTIONS_H
 

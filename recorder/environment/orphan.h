@@ -1,5 +1,7 @@
 /* A process that has no setting of ours, and runs under an asancol-run all the same: its environment was cleaned, or is
-   not to be believed. It finds the run by what it has inherited (common/inherited.h). */
+   not to be believed. It finds the run by what it has inherited (common/inherited.h).
+
+   Called: orphan_ask once at the start, orphan_say when a process or a shared object can't be recorded; no lock. */
 #ifndef ASANCOL_ORPHAN_H
 #define ASANCOL_ORPHAN_H
 

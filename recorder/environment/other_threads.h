@@ -1,4 +1,6 @@
-/* Whether a process has other threads. */
+/* Whether a process has other threads.
+
+   Called: at any time, also in a handler: calls of the system alone. */
 #ifndef ASANCOL_OTHER_THREADS_H
 #define ASANCOL_OTHER_THREADS_H
 

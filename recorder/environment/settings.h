@@ -1,4 +1,6 @@
-/* What the environment says. */
+/* What the environment says.
+
+   Called: settings_read once at the start; then they are only read. */
 #ifndef ASANCOL_SETTINGS_H
 #define ASANCOL_SETTINGS_H
 

@@ -1,4 +1,6 @@
-/* Whether a trace that is there is one of an earlier run. */
+/* Whether a trace that is there is one of an earlier run.
+
+   Called: when a trace is opened, with the lock of the stream. */
 #ifndef ASANCOL_STALE_TRACE_H
 #define ASANCOL_STALE_TRACE_H
 

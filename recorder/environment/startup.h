@@ -1,5 +1,7 @@
 /* What a process is given when it starts. The C library's variables of this are not read: a program may have their
-   names. */
+   names.
+
+   Called: startup_note at the first call into an object, and at the start; the rest at any time after that. */
 #ifndef ASANCOL_STARTUP_H
 #define ASANCOL_STARTUP_H
 

@@ -1,6 +1,8 @@
 /* Where the allocator's memory comes from: one range of addresses, which is cut into units of 64 KiB. The notes on
    units and blocks lie apart from them, so that a program that writes out of bounds does not meet them; and a pointer
-   is looked up by arithmetic alone. What has no memory yet faults. The allocator's lock is held. */
+   is looked up by arithmetic alone. What has no memory yet faults. The allocator's lock is held.
+
+   Called: by the allocator, with the lock named at each; arena_find_nearest and arena_find_around at any time. */
 #ifndef ASANCOL_ARENA_H
 #define ASANCOL_ARENA_H
 

@@ -1,5 +1,8 @@
 /* Families of functions that allocate: a block has to be freed by its own. And sizes and alignments that a delete
-   says. */
+   says.
+
+   Called: by free and its like, in the thread that calls them and in the allocator, for a block that is its own by
+   then. */
 #ifndef ASANCOL_FAMILIES_H
 #define ASANCOL_FAMILIES_H
 

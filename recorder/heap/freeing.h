@@ -1,4 +1,6 @@
-/* Blocks that are given back. */
+/* Blocks that are given back.
+
+   Called: by free and its like, in a shard or with all, as each says. */
 #ifndef ASANCOL_FREEING_H
 #define ASANCOL_FREEING_H
 

@@ -1,4 +1,7 @@
-/* The allocator. */
+/* The allocator.
+
+   Called: by malloc and its like, by the stream (`above`), and by the process around forks and ends: in any thread,
+   also in a handler. */
 #ifndef ASANCOL_HEAP_H
 #define ASANCOL_HEAP_H
 

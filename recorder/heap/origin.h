@@ -1,4 +1,6 @@
-/* For whom the next malloc or free of this thread is: the caller that stands for it, and the operator of C++. */
+/* For whom the next malloc or free of this thread is: the caller that stands for it, and the operator of C++.
+
+   Called: by the malloc or free of the same thread; no lock. */
 #ifndef ASANCOL_ORIGIN_H
 #define ASANCOL_ORIGIN_H
 

@@ -2,7 +2,9 @@
 
    What a record makes bad is painted before the record takes its place in the stream: the redzones of a malloc, the
    bytes of a free. What it makes good is painted after: the bytes of a malloc. So whoever finds a byte addressable
-   here came before the record that takes it away, or after the one that gives it. */
+   here came before the record that takes it away, or after the one that gives it.
+
+   Called: in a shard for its own blocks, or with all. */
 #ifndef ASANCOL_PAINT_H
 #define ASANCOL_PAINT_H
 

@@ -1,4 +1,6 @@
-/* What the program wants to be called after each malloc and before each free (heap_add_hooks). */
+/* What the program wants to be called after each malloc and before each free (heap_add_hooks).
+
+   Called: by malloc and free, in the thread that calls them, also in a handler. */
 #ifndef ASANCOL_PROGRAM_HOOKS_H
 #define ASANCOL_PROGRAM_HOOKS_H
 

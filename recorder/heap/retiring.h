@@ -1,4 +1,6 @@
-/* What happens to units whose blocks are freed for good (shards.h). */
+/* What happens to units whose blocks are freed for good (shards.h).
+
+   Called: in a shard or with central, as each says; retiring_has and retiring_forgot at any time. */
 #ifndef ASANCOL_RETIRING_H
 #define ASANCOL_RETIRING_H
 

@@ -1,4 +1,6 @@
-/* If the system has no more memory: whatever is freed for good may be used again. */
+/* If the system has no more memory: whatever is freed for good may be used again.
+
+   Called: by shards.c and retiring.c, with central. */
 #ifndef ASANCOL_REUSING_H
 #define ASANCOL_REUSING_H
 

@@ -11,7 +11,9 @@
 
    Pages of freed blocks that can't go back, since live ones lie beside them, are dead. If they are more than the bound
    of the quarantine, free slots of the oldest such units are reused, and the stream says so
-   (side_note_reuse). */
+   (side_note_reuse).
+
+   Called: in the shard of the thread, or with all; shard_take and shard_give with the gate. */
 #ifndef ASANCOL_SHARDS_H
 #define ASANCOL_SHARDS_H
 

@@ -1,4 +1,6 @@
-/* Frames of fake stacks, as code of a shared object asks for them. */
+/* Frames of fake stacks, as code of a shared object asks for them.
+
+   Called: by the first call into a shared object. */
 #ifndef ASANCOL_FAKE_FRAMES_H
 #define ASANCOL_FAKE_FRAMES_H
 

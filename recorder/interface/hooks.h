@@ -1,5 +1,7 @@
 /* How code that is linked into programs and into shared objects reaches the recorder: by the table of the program,
-   which a shared object finds if there is one (hooks.def). */
+   which a shared object finds if there is one (hooks.def).
+
+   Called: in any thread, also in a handler, and where there is no recorder. */
 #ifndef ASANCOL_HOOKS_H
 #define ASANCOL_HOOKS_H
 

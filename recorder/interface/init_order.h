@@ -1,5 +1,7 @@
 /* Globals that have no value yet, while a file initialises its own: an access to one is bad then, since it depends on
-   the order of files. As AddressSanitizer's check_initialization_order. */
+   the order of files. As AddressSanitizer's check_initialization_order.
+
+   Called: by the constructors of a module, in the thread that loads it. */
 #ifndef ASANCOL_INIT_ORDER_H
 #define ASANCOL_INIT_ORDER_H
 

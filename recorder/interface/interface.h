@@ -1,4 +1,6 @@
-/* AddressSanitizer's interface, as far as the recorder itself calls it. */
+/* AddressSanitizer's interface, as far as the recorder itself calls it.
+
+   Called: at the start, in its thread. */
 #ifndef ASANCOL_INTERFACE_H
 #define ASANCOL_INTERFACE_H
 

@@ -1,4 +1,6 @@
-/* What the copies of loops without checks (loops/versions.cpp) ask for. */
+/* What the copies of loops without checks (loops/versions.cpp) ask for.
+
+   Called: by compiled code, in any thread, also in a handler; no lock: the shadow is only read. */
 #ifndef ASANCOL_INTERFACE_LOOPS_H
 #define ASANCOL_INTERFACE_LOOPS_H
 

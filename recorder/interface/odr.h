@@ -1,5 +1,7 @@
 /* Globals that two modules have defined, against the rule of one definition. As AddressSanitizer's
-   detect_odr_violation. */
+   detect_odr_violation.
+
+   Called: by the constructors and destructors of a module, in the thread that loads or unloads it. */
 #ifndef ASANCOL_ODR_H
 #define ASANCOL_ODR_H
 

@@ -1,4 +1,6 @@
-/* When the globals of a module are registered, and for how long. */
+/* When the globals of a module are registered, and for how long.
+
+   Called: by the first call into a module, and by its constructors and destructors. */
 #ifndef ASANCOL_REGISTERING_H
 #define ASANCOL_REGISTERING_H
 

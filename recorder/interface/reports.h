@@ -1,5 +1,8 @@
 /* Reports, as the process is told of them while it runs: by the program's __asan_on_error and by its callback, which
-   may ask for the report meanwhile. The checker's own reports come later, and from elsewhere. */
+   may ask for the report meanwhile. The checker's own reports come later, and from elsewhere.
+
+   Called: reports_tell by the stream (`above`), in the thread with the fault, also in a handler; the table by the
+   program. */
 #ifndef ASANCOL_REPORTS_H
 #define ASANCOL_REPORTS_H
 

@@ -1,5 +1,8 @@
 /* Blocks that nothing leads to any more, as LeakSanitizer finds them. They become findings beside the stream
-   (findings.h), one for each stack that has allocated some. */
+   (findings.h), one for each stack that has allocated some.
+
+   Called: at an exit, or when the program asks, in the thread that does so; locks are taken here, in README.md's
+   order. */
 #ifndef ASANCOL_LEAKS_H
 #define ASANCOL_LEAKS_H
 

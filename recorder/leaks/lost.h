@@ -1,4 +1,6 @@
-/* Blocks that are lost, by where they were allocated. */
+/* Blocks that are lost, by where they were allocated.
+
+   Called: by leaks.c, while all other threads stand still, with the loader's lock and the allocator's. */
 #ifndef ASANCOL_LOST_H
 #define ASANCOL_LOST_H
 

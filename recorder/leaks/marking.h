@@ -1,5 +1,7 @@
 /* Which blocks something leads to. A word leads to a block if it is the address of any of its bytes, as
-   LeakSanitizer has it. A word whose memory is off limits leads nowhere. */
+   LeakSanitizer has it. A word whose memory is off limits leads nowhere.
+
+   Called: by leaks.c and roots.c, while all other threads stand still, with the loader's lock and the allocator's. */
 #ifndef ASANCOL_MARKING_H
 #define ASANCOL_MARKING_H
 

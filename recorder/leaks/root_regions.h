@@ -1,4 +1,6 @@
-/* Memory that the process has named as a root, by __lsan_register_root_region. */
+/* Memory that the process has named as a root, by __lsan_register_root_region.
+
+   Called: by the program, in any thread, and by roots.c; the allocator's lock guards the table. */
 #ifndef ASANCOL_ROOT_REGIONS_H
 #define ASANCOL_ROOT_REGIONS_H
 

@@ -1,5 +1,7 @@
 /* From where the process can come to its blocks: registers, stacks and thread-local memory of its threads, the writable
-   parts of its modules, and what it has named. */
+   parts of its modules, and what it has named.
+
+   Called: by leaks.c, while all other threads stand still, with the loader's lock and the allocator's. */
 #ifndef ASANCOL_ROOTS_H
 #define ASANCOL_ROOTS_H
 

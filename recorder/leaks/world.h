@@ -1,4 +1,6 @@
-/* All other threads of the process, stopped for a while. Each says what it had in its registers. */
+/* All other threads of the process, stopped for a while. Each says what it had in its registers.
+
+   Called: by leaks.c and roots.c, in the thread that looks for leaks. */
 #ifndef ASANCOL_WORLD_H
 #define ASANCOL_WORLD_H
 

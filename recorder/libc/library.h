@@ -1,5 +1,7 @@
 /* The C library: where its code lies, whose functions are checked when they are called, and those of its functions that
-   the recorder calls for itself. A program may have any name for itself, so these are found by address. */
+   the recorder calls for itself. A program may have any name for itself, so these are found by address.
+
+   Called: library_begin and library_find at the start; what they found is read at any time, also in a handler. */
 #ifndef ASANCOL_LIBRARY_H
 #define ASANCOL_LIBRARY_H
 

@@ -1,5 +1,7 @@
 /* What a loaded object says of its names, in the tables that the loader reads. The tables are not checked: the loader
-   has believed them. */
+   has believed them.
+
+   Called: at the start, and after a library was opened; it only reads. */
 #ifndef ASANCOL_OBJECTS_H
 #define ASANCOL_OBJECTS_H
 

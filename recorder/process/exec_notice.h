@@ -1,5 +1,7 @@
 /* A program that this process becomes by an exec, or begins as a child: if asancol-cc has built it, the hub expects it
-   to connect. It may die before it does, in the dynamic linker already, or not know of the hub. */
+   to connect. It may die before it does, in the dynamic linker already, or not know of the hub.
+
+   Called: by the program's exec and its like, in any thread, also in a child of vfork; no lock is held. */
 #ifndef ASANCOL_EXEC_NOTICE_H
 #define ASANCOL_EXEC_NOTICE_H
 

@@ -1,4 +1,6 @@
-/* A shared object of asancol-cc in a program that has no recorder, or that of another release. */
+/* A shared object of asancol-cc in a program that has no recorder, or that of another release.
+
+   Called: by a constructor of that object, in the thread that loads it. */
 #ifndef ASANCOL_FOREIGN_H
 #define ASANCOL_FOREIGN_H
 

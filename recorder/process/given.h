@@ -1,4 +1,6 @@
-/* Memory that the program gives to the system, of which nothing is known. */
+/* Memory that the program gives to the system, of which nothing is known.
+
+   Called: by the checks of calls, in any thread, also in a handler; no lock. */
 #ifndef ASANCOL_GIVEN_H
 #define ASANCOL_GIVEN_H
 

@@ -1,4 +1,6 @@
-/* The end of the process at the first access or free that the shadow flags. */
+/* The end of the process at the first access or free that the shadow flags.
+
+   Called: halt_at by the stream (`above`), in the thread with the fault, also in a handler. */
 #ifndef ASANCOL_HALT_H
 #define ASANCOL_HALT_H
 

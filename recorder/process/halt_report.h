@@ -1,4 +1,6 @@
-/* What a process says that ends by ASANCOL_HALT: a report in AddressSanitizer's words. */
+/* What a process says that ends by ASANCOL_HALT: a report in AddressSanitizer's words.
+
+   Called: by halt.c, in the one thread that ends the process, also in a handler; nothing is allocated. */
 #ifndef ASANCOL_HALT_REPORT_H
 #define ASANCOL_HALT_REPORT_H
 

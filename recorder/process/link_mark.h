@@ -1,4 +1,6 @@
-/* Which programs asancol-cc has built. */
+/* Which programs asancol-cc has built.
+
+   Called: by exec_notice.c, in any thread, also in a child of vfork. */
 #ifndef ASANCOL_LINK_MARK_H
 #define ASANCOL_LINK_MARK_H
 

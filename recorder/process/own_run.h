@@ -1,4 +1,6 @@
-/* ASANCOL_RUN: a program that finds no run becomes one of its own, which is asancol-run with the program's words. */
+/* ASANCOL_RUN: a program that finds no run becomes one of its own, which is asancol-run with the program's words.
+
+   Called: at the start, in its thread. */
 #ifndef ASANCOL_OWN_RUN_H
 #define ASANCOL_OWN_RUN_H
 

@@ -1,4 +1,6 @@
-/* What plain libraries call: those that asancol-cc did not link. */
+/* What plain libraries call: those that asancol-cc did not link.
+
+   Called: at the start, and after a library was opened; plain_instead_of by dlsym, in any thread. */
 #ifndef ASANCOL_PLAIN_H
 #define ASANCOL_PLAIN_H
 

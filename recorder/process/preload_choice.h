@@ -1,5 +1,7 @@
 /* Whether the preloaded recorder records this process, or steps aside: if the program has a recorder, as all that
-   asancol-cc has linked, or if there is no room for the shadow. */
+   asancol-cc has linked, or if there is no room for the shadow.
+
+   Called: preload_choice_is_own at the first call; way_of by the first call of each name, in any thread. */
 #ifndef ASANCOL_PRELOAD_CHOICE_H
 #define ASANCOL_PRELOAD_CHOICE_H
 

@@ -1,4 +1,6 @@
-/* A preloaded recorder waits for the first shared object of asancol-cc, or the first bad access or free. */
+/* A preloaded recorder waits for the first shared object of asancol-cc, or the first bad access or free.
+
+   Called: by the thread that loads the first module with checks, or has the first fault. */
 #ifndef ASANCOL_PRELOAD_WAIT_H
 #define ASANCOL_PRELOAD_WAIT_H
 

@@ -1,4 +1,6 @@
-/* What happens to the stream when the process starts, forks, and ends. */
+/* What happens to the stream when the process starts, forks, and ends.
+
+   Called: by the start, forks, execs and ends, in the thread that does these; an end by a signal in its handler. */
 #ifndef ASANCOL_PROCESS_H
 #define ASANCOL_PROCESS_H
 

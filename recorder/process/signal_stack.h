@@ -1,4 +1,6 @@
-/* Stacks on which the handlers of signals run. */
+/* Stacks on which the handlers of signals run.
+
+   Called: by the thread that the stack is for. */
 #ifndef ASANCOL_SIGNAL_STACK_H
 #define ASANCOL_SIGNAL_STACK_H
 

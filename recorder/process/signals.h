@@ -1,4 +1,7 @@
-/* Signals that end the process, handled. */
+/* Signals that end the process, handled.
+
+   Called: signals_handle at the start, signals_set_action by the program, and the handlers by the kernel, in any
+   thread. */
 #ifndef ASANCOL_SIGNALS_H
 #define ASANCOL_SIGNALS_H
 

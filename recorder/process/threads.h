@@ -1,4 +1,6 @@
-/* The stacks of threads. */
+/* The stacks of threads.
+
+   Called: by the program's calls, compiled code and the stream, in the thread that it is about, also in a handler. */
 #ifndef ASANCOL_THREADS_H
 #define ASANCOL_THREADS_H
 

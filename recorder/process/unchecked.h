@@ -1,4 +1,6 @@
-/* What of the process was not checked: code that asancol-cc did not compile, and blocks of other allocators. */
+/* What of the process was not checked: code that asancol-cc did not compile, and blocks of other allocators.
+
+   Called: unchecked_start at the start; the list with the lock of the stream (`above`). */
 #ifndef ASANCOL_UNCHECKED_H
 #define ASANCOL_UNCHECKED_H
 

@@ -1,4 +1,6 @@
-/* The globals of the program and of its shared objects, as the compilers register them. */
+/* The globals of the program and of its shared objects, as the compilers register them.
+
+   Called: globals_note by the constructors and destructors of modules; the rest at any time: results are copies. */
 #ifndef ASANCOL_GLOBALS_H
 #define ASANCOL_GLOBALS_H
 

@@ -1,4 +1,6 @@
-/* Where the shadow lies, and the page beside it. */
+/* Where the shadow lies, and the page beside it.
+
+   Called: by the first call into an object, in its thread; is_in_guard and is_in_own_file at any time. */
 #ifndef ASANCOL_MAPPING_H
 #define ASANCOL_MAPPING_H
 

@@ -10,7 +10,9 @@
    Of memory outside the allocator's the stream says nothing until an access comes that the check flags. A
    second map of the same form, `stated`, has the byte that the stream states of each granule there. Where the two
    differ, the stream is brought up before the access is recorded (stated.c). So a frame whose redzones nobody comes
-   near costs nothing, and a stream that begins later begins with a map of zeros. */
+   near costs nothing, and a stream that begins later begins with a map of zeros.
+
+   Called: at any time, also in a handler, and read by compiled code; no lock: who writes owns the memory. */
 #ifndef ASANCOL_SHADOW_H
 #define ASANCOL_SHADOW_H
 

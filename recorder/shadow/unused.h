@@ -1,6 +1,8 @@
 /* The shadow of blocks' memory that was not handed out yet, or is freed for good: it says "poison". Its pages are those
    of one file, so it costs nothing, however much memory it is. What the allocator writes there is the process's own,
-   and the file stays. */
+   and the file stays.
+
+   Called: by the allocator, for memory that is nobody's. */
 #ifndef ASANCOL_UNUSED_H
 #define ASANCOL_UNUSED_H
 

@@ -1,5 +1,7 @@
 /* Call frame information: what compilers write in .eh_frame of each instruction, so that an exception finds its way
-   from there to the caller. It leads through code without frame pointers, such as that of libraries. */
+   from there to the caller. It leads through code without frame pointers, such as that of libraries.
+
+   Called: by unwinding.c, in any thread, also in a handler. */
 #ifndef ASANCOL_CFI_H
 #define ASANCOL_CFI_H
 

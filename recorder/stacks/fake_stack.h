@@ -1,7 +1,9 @@
 /* The fake stack of a thread: frames in memory apart from its stack, which is used again late. So an access to a
    variable of a function that has returned is found. The compilers' code takes a frame when a function begins, and
    keeps its variables on the stack if it gets none. When the function returns, that code marks the frame's shadow as
-   SHADE_RETURNED and clears a flag, whose address stands in the frame's last word. */
+   SHADE_RETURNED and clears a flag, whose address stands in the frame's last word.
+
+   Called: by compiled code, in the thread whose frames they are, also in a handler; no lock. */
 #ifndef ASANCOL_FAKE_STACK_H
 #define ASANCOL_FAKE_STACK_H
 

@@ -1,4 +1,6 @@
-/* The variables of frames, as the compilers describe them, and arrays of dynamic size. */
+/* The variables of frames, as the compilers describe them, and arrays of dynamic size.
+
+   Called: by faults and reports, at any time; the described memory may be gone. */
 #ifndef ASANCOL_FRAMES_H
 #define ASANCOL_FRAMES_H
 

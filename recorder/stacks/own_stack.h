@@ -1,4 +1,6 @@
-/* Where the thread's own stack lies. */
+/* Where the thread's own stack lies.
+
+   Called: written at the start of a thread, by it, and read by it alone, also in a handler. */
 #ifndef ASANCOL_OWN_STACK_H
 #define ASANCOL_OWN_STACK_H
 

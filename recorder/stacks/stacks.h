@@ -1,5 +1,7 @@
 /* Stacks of calls. Each is kept once, and a call site stands for it: a word that is kept where an address would be. So
-   a block needs no more room for the stack of its malloc than for its caller. */
+   a block needs no more room for the stack of its malloc than for its caller.
+
+   Called: at any time, also in a handler; no lock. */
 #ifndef ASANCOL_STACKS_H
 #define ASANCOL_STACKS_H
 

@@ -3,7 +3,9 @@
    leads to the same stack. So these are only compared: that takes two loads for each frame, and none waits for another.
 
    A thread that has walked some times takes a place for what it knows, of which 128 KiB are for 8,192 frames, and gives
-   it back at its end. It is emptied if it is full, and if rules may have changed. */
+   it back at its end. It is emptied if it is full, and if rules may have changed.
+
+   Called: by unwinding.c, in the thread that walks; a handler that has interrupted it keeps nothing. */
 #ifndef ASANCOL_WALKS_H
 #define ASANCOL_WALKS_H
 

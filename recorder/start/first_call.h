@@ -1,4 +1,6 @@
-/* The first call into an object. */
+/* The first call into an object.
+
+   Called: by preinit.c or the loader, in the thread that starts the program or loads the object. */
 #ifndef ASANCOL_FIRST_CALL_H
 #define ASANCOL_FIRST_CALL_H
 

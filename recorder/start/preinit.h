@@ -1,4 +1,6 @@
-/* Before the resolvers of a program. Of the C library nothing may be called then. */
+/* Before the resolvers of a program. Of the C library nothing may be called then.
+
+   Called: by the dynamic linker, before all else. */
 #ifndef ASANCOL_PREINIT_H
 #define ASANCOL_PREINIT_H
 

@@ -1,4 +1,6 @@
-/* The recorder's start. */
+/* The recorder's start.
+
+   Called: by first_call.c, or by a bad access before that (`above`); it is done once. */
 #ifndef ASANCOL_START_H
 #define ASANCOL_START_H
 

@@ -1,4 +1,7 @@
-/* The end of a stream: at its limit, at an exit, at the end by a signal, and of a segment. */
+/* The end of a stream: at its limit, at an exit, at the end by a signal, and of a segment.
+
+   Called: in the thread that ends the process or comes to the limit, also in a handler; each says if the lock is
+   held. */
 #ifndef ASANCOL_ENDING_H
 #define ASANCOL_ENDING_H
 

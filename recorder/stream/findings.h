@@ -1,5 +1,7 @@
 /* Findings: what the recorder knows to be wrong, and no event of the stream shows. Each is one entry in the list of
-   faults, for each call site with its stack. Nobody checks it again: it is the recorder's word. */
+   faults, for each call site with its stack. Nobody checks it again: it is the recorder's word.
+
+   Called: at any time, also in a handler, with or without the allocator's lock. */
 #ifndef ASANCOL_FINDINGS_H
 #define ASANCOL_FINDINGS_H
 

@@ -1,4 +1,6 @@
-/* The map of modules, as the system writes it: text, a line for each part. */
+/* The map of modules, as the system writes it: text, a line for each part.
+
+   Called: at any time, with memory of who calls; no lock. */
 #ifndef ASANCOL_MAPS_H
 #define ASANCOL_MAPS_H
 

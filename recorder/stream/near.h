@@ -1,4 +1,6 @@
-/* What lies nearest to a bad byte: a block, or a variable. It is described in the fault. */
+/* What lies nearest to a bad byte: a block, or a variable. It is described in the fault.
+
+   Called: by faults.c and findings.c, at any time, also in a handler. */
 #ifndef ASANCOL_NEAR_H
 #define ASANCOL_NEAR_H
 

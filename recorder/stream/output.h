@@ -1,4 +1,6 @@
-/* Where bytes go: a file that is mapped, or a descriptor that takes pieces. */
+/* Where bytes go: a file that is mapped, or a descriptor that takes pieces.
+
+   Called: with the lock of the stream; output_lose in the handler of SIGBUS, which waits for none. */
 #ifndef ASANCOL_OUTPUT_H
 #define ASANCOL_OUTPUT_H
 

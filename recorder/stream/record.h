@@ -1,4 +1,6 @@
-/* The recording of accesses, in code that is inlined where they are, and regions. writing.h says how. */
+/* The recording of accesses, in code that is inlined where they are, and regions. writing.h says how.
+
+   Called: by compiled code and checks, in any thread, also in a handler; no lock. */
 #ifndef ASANCOL_RECORD_H
 #define ASANCOL_RECORD_H
 

@@ -1,4 +1,6 @@
-/* Records of regions: blocks, and poison. */
+/* Records of regions: blocks, and poison.
+
+   Called: blocks by the allocator, poison by the program: in any thread, also in a handler. */
 #ifndef ASANCOL_REGIONS_H
 #define ASANCOL_REGIONS_H
 

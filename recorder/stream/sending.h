@@ -1,4 +1,6 @@
-/* What a socket or a pipe is given, before the end. */
+/* What a socket or a pipe is given, before the end.
+
+   Called: sending_push with the lock of the stream; the rest after a record, in any thread, also in a handler. */
 #ifndef ASANCOL_SENDING_H
 #define ASANCOL_SENDING_H
 

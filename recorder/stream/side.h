@@ -1,5 +1,7 @@
 /* What stands beside a stream: who the process is and how it ended, its modules, and its faults (faults.h). It is the
-   memory that a hub shares, or the file TRACE.where. */
+   memory that a hub shares, or the file TRACE.where.
+
+   Called: notes at any time, also in a handler; beginning, ending and modules with the lock of the stream. */
 #ifndef ASANCOL_SIDE_H
 #define ASANCOL_SIDE_H
 

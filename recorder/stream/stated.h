@@ -1,4 +1,6 @@
-/* What the stream states of memory outside the allocator's. stating.c brings it up to the shadow. */
+/* What the stream states of memory outside the allocator's. stating.c brings it up to the shadow.
+
+   Called: at any time, also in a handler; no lock. */
 #ifndef ASANCOL_STATED_H
 #define ASANCOL_STATED_H
 

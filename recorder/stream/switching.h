@@ -1,4 +1,6 @@
-/* From one segment to the next. */
+/* From one segment to the next.
+
+   Called: in any thread; who goes on has the allocator's lock, and takes the stream's. */
 #ifndef ASANCOL_SWITCHING_H
 #define ASANCOL_SWITCHING_H
 

@@ -1,5 +1,7 @@
 /* A program may ask to be told of each report while it runs (interface/reports.h). Bad accesses and frees come from
-   here. */
+   here.
+
+   Called: at any time, also in a handler. */
 #ifndef ASANCOL_TELLING_H
 #define ASANCOL_TELLING_H
 

@@ -1,4 +1,6 @@
-/* The list of threads that faults name. An entry is taken by its number, and then filled by whoever has taken it. */
+/* The list of threads that faults name. An entry is taken by its number, and then filled by whoever has taken it.
+
+   Called: at any time, also in a handler; no lock. */
 #ifndef ASANCOL_THREAD_LIST_H
 #define ASANCOL_THREAD_LIST_H
 

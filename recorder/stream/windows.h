@@ -1,6 +1,8 @@
 /* Where streams lie, and what stands beside them: in windows of two ranges of addresses, which are reserved once. The
    offset of a record counts from the start of the range, so it says of which stream the record is. A late store, by a
-   thread that slept, meets plain memory, and not the stream that has come after. */
+   thread that slept, meets plain memory, and not the stream that has come after.
+
+   Called: windows_mend in the handler of SIGBUS; the rest with the lock of the stream, or before there is one. */
 #ifndef ASANCOL_WINDOWS_H
 #define ASANCOL_WINDOWS_H
 
