@@ -39,22 +39,21 @@ def text_of(path: str) -> str:
 
 
 def files_of(name: str, programs: List[table.Program]) -> Dict[str, str]:
-    """Returns the files generated from a table, by path. The page of a second program of a folder leads to that of the
-    first."""
+    """Returns the files generated from a table, by path. The page of a wrapper of a second compiler leads to that of
+    the first."""
     made = f"Made by `make options` from options/{name}.options."
     files: Dict[str, str] = {}
-    firsts: Dict[str, str] = {}
-    for program in (it for it in programs if " " not in it.name):
+    own = [it for it in programs if " " not in it.name]
+    for program in own:
+        first = own[0].name if "Wraps" in program.keys else program.name
         commands = [it for it in programs if it.name.startswith(f"{program.name} ")]
-        folder = program.keys["Folder"]
         for shell in completions.SHELLS if "Wraps" not in program.keys else ():
-            path = os.path.normpath(f"{folder}/completions/{program.name}.{shell}")
-            files[path] = completions.completion_of(shell, program, commands, made)
-        path = os.path.normpath(f"{folder}/man/{program.name}.1")
-        if firsts.setdefault(folder, program.name) == program.name:
+            files[f"completions/{program.name}.{shell}"] = completions.completion_of(shell, program, commands, made)
+        path = f"man/{program.name}.1"
+        if first == program.name:
             files[path] = pages.page_of(text_of(path), [program, *commands])
         else:
-            files[path] = f".so man1/{firsts[folder]}.1\n"
+            files[path] = f".so man1/{first}.1\n"
         if program.name == "asancol-run":
             files["run/option_table.h"] = sources.header_of(program, made)
         if program.name == "asancol-report":

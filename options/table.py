@@ -4,7 +4,6 @@ A table is blocks of lines `Key: value` with empty lines between them. A line th
 value above it, and a line that begins with `#` is a comment. The first line of a block says what it is:
 
     Program: NAME          a program, or a command of one, as `asancol check`
-    Folder:                where its folders `completions` and `man` are
     Groups:                the headings of its options, in their order
     Head:, Foot:           what its help has before and after the options
     Operands:              `files`; `files PATTERN, with --OPTION PATTERN`; WORD, WORD..; or `a command`, which has its
@@ -126,7 +125,7 @@ class Program:
         return [it for it in self.options if it.groups[self.name] == group]
 
 
-PROGRAM = ("Program", "Folder", "Groups", "Head", "Foot", "Operands", "Wraps", "Help")
+PROGRAM = ("Program", "Groups", "Head", "Foot", "Operands", "Wraps", "Help")
 OPTION = ("Option", "Alias", "Takes", "Default", "Repeats", "Sets", "Passed to", "Written by", "Help", "Page")
 OF_PROGRAM = re.compile(r"(Group|Default|Help|Page) of .+")
 DECLARED = re.compile(r"(?:(-\w), )?(--?[a-z][a-z-]+)(?:([ =])(\w+))?")

@@ -11,13 +11,8 @@ from typing import Callable, Dict, List, Tuple
 from testing import TOP, expect
 from testing.programs import call
 
-# Where the completions of each program are.
-FOLDERS = {
-    "asancol": "completions",
-    "asancol-run": "run/completions",
-    "asancol-report": "report/completions",
-    "asancol-listen": "listen/completions",
-}
+# The programs that have completions.
+PROGRAMS = ("asancol", "asancol-run", "asancol-report", "asancol-listen")
 
 # The words typed after the name of a program, in a folder with run.trace, result.jsonl and a folder results, and one of
 # the words that are offered.
@@ -122,8 +117,8 @@ SHELLS = {
 
 PAGES = (
     "man/asancol.1", "man/asancol-trace.5",
-    "recorder/man/asancol-cc.1", "run/man/asancol-run.1", "report/man/asancol-report.1",
-    "report/man/asancol-results.5", "listen/man/asancol-listen.1",
+    "man/asancol-cc.1", "man/asancol-run.1", "man/asancol-report.1",
+    "man/asancol-results.5", "man/asancol-listen.1",
 )
 
 
@@ -146,7 +141,7 @@ def mistakes_are_refused(_: str) -> None:
     """A mistake in a table is said with its option, and nothing is made."""
     for old, new, said in MISTAKES:
         with tempfile.TemporaryDirectory() as folder:
-            for part in ("options", "man", "run", "report", "recorder/man", "listen"):
+            for part in ("options", "man", "run", "report", "listen"):
                 shutil.copytree(f"{TOP}/{part}", f"{folder}/{part}", ignore=shutil.ignore_patterns("tests", "out"))
             path = f"{folder}/options/asancol-run.options"
             text = text_of("options/asancol-run.options")
@@ -172,9 +167,9 @@ def settings_are_there(_: str) -> None:
     sources = text_of("recorder/environment/settings.c") + text_of("recorder/wrapper/fronts.def")
     known = set(re.findall(r'"(ASANCOL_\w+)"', sources))
     of_run = {"ASANCOL_REPORT", "ASANCOL_SYMBOLIZER", "ASANCOL_OUTER"}
-    page = set(re.findall(r"ASANCOL_\w+", text_of("recorder/man/asancol-cc.1")))
+    page = set(re.findall(r"ASANCOL_\w+", text_of("man/asancol-cc.1")))
     expect(page, known - of_run, "variables")
-    options = re.findall(r"^\.It Fl -(asancol-\w+)", text_of("recorder/man/asancol-cc.1"), re.M)
+    options = re.findall(r"^\.It Fl -(asancol-\w+)", text_of("man/asancol-cc.1"), re.M)
     expect(options, re.findall(r'"--(asancol-\w+)', text_of("recorder/wrapper/command.c")), "options")
 
 
@@ -184,7 +179,7 @@ def results_are_described(_: str) -> None:
     found = re.findall(r'"(\w+)":|\["(\w+)"\]|\("(\w+)", \w+\.|, (\w+)=[a-z]', source)
     fields = {"".join(it) for it in found} - {"separators", "maxsize", "typed"}
     expect({"events", "build_id", "unchecked_more", "freed", "blocks"} <= fields, True, f"fields: {sorted(fields)}")
-    page = set(re.findall(r"\w+", re.sub(r"\\f[BIP]", "", text_of("report/man/asancol-results.5"))))
+    page = set(re.findall(r"\w+", re.sub(r"\\f[BIP]", "", text_of("man/asancol-results.5"))))
     expect(sorted(fields - page), [], "fields that the page does not have")
 
 
@@ -213,7 +208,7 @@ def offers(shell: str) -> Callable[[str], None]:
             os.mkdir(f"{folder}/results")
             for rows, is_offered in ((OFFERED, True), (WITHHELD, False)):
                 for program, argv, word in ((it, *row) for it, of_it in rows.items() for row in of_it):
-                    path = f"{TOP}/{FOLDERS[program]}/{program}.{shell}"
+                    path = f"{TOP}/completions/{program}.{shell}"
                     text = output_of([*SHELLS[shell], path, program, *argv], folder)
                     offered = [it.rstrip("/=") for it in text.split("\n")]
                     expect(word in offered, is_offered, f"{program} {' '.join(argv)}: {word} in {offered}")
@@ -224,8 +219,8 @@ def offers(shell: str) -> Callable[[str], None]:
 def files_can_be_read(_: str) -> None:
     """Each shell that is there reads its files without an error."""
     for shell in filter(shutil.which, SHELLS):
-        for program, folder in FOLDERS.items():
-            argv = [shell, "-n", f"{TOP}/{folder}/{program}.{shell}"]
+        for program in PROGRAMS:
+            argv = [shell, "-n", f"{TOP}/completions/{program}.{shell}"]
             ran = call(argv, stderr=subprocess.PIPE, check=False)
             expect((ran.returncode, ran.stderr), (0, b""), f"{program}.{shell}")
 
