@@ -6,8 +6,8 @@
      later one, reads it without the lock.
    - `locked` (locked.h): only who has the lock of the stream.
 
-   Locks are taken in this order: that of the allocator (heap.h), then that of the stream. No other lock is taken while
-   the stream's is held. A thread that holds it has all signals blocked, except SIGBUS, and is not cancelled. */
+   A thread that holds the lock has all signals blocked, except SIGBUS, and is not cancelled. README.md has the order
+   of all locks: this is the last. */
 #ifndef ASANCOL_STATE_H
 #define ASANCOL_STATE_H
 
