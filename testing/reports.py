@@ -9,10 +9,14 @@ import socket
 import subprocess
 from typing import Any, Callable, Dict, Optional
 
+from asancol_report import option_table
 from .expectations import LeftOut
 from .programs import REPORT, Ran, Started, call, environment, write_text
 from .side import Parts, Program, fault, fill, look_at, of_program, write_side
 from .suite import Suite, test
+
+# All output forms of asancol-report beside its text, as its options name them.
+FORMS = tuple(it.lstrip("-") for it in option_table.OUTPUTS)
 
 # No reading may take longer, in seconds.
 PATIENCE = 120

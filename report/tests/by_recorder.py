@@ -6,7 +6,7 @@ import xml.dom.minidom
 from typing import Any, Dict, List, Tuple
 
 from testing import expect, expect_in, expect_not_in
-from testing.reports import END, FREED, OVERFLOW, Feed, build, freed_block, report, report_test, write_trace
+from testing.reports import END, FORMS, FREED, OVERFLOW, Feed, build, freed_block, report, report_test, write_trace
 from testing.side import finding, of_program
 from asancol_report import side as layout
 from asancol_report.class_names import CLASSES
@@ -82,8 +82,7 @@ def each_kind(folder: str) -> None:
     program = build(folder)
     each = one_of_each(program.places)
     write_trace(folder, "a.trace", CLEAN, of_program(program, each, (), findings=len(each)))
-    names = ("sarif", "junit", "codequality", "html", "json")
-    ran = report(folder, "--trace", "a.trace", "--leaks=yes", *(f"--{name}=a.{name}" for name in names))
+    ran = report(folder, "--trace", "a.trace", "--leaks=yes", *(f"--{name}=a.{name}" for name in FORMS))
     expect(ran.status, 1, ran.err)
     titles = re.findall(r"^==7==ERROR: asancol: (.*)$", ran.out, re.M)
     expect(titles, list(TITLES), "titles, in the order of what came before")
@@ -134,8 +133,7 @@ def write_two(folder: str) -> None:
     parts = of_program(program, [freed_block(program), mismatch(program.places, count=2, after=9)], [0, 0, 0, 0, 1],
                        findings=1)
     write_trace(folder, "a.trace", FREED + END, parts)
-    names = ("sarif", "junit", "codequality", "html", "json")
-    ran = report(folder, "--trace", "a.trace", "--gen-suppressions", *(f"--{name}=a.{name}" for name in names))
+    ran = report(folder, "--trace", "a.trace", "--gen-suppressions", *(f"--{name}=a.{name}" for name in FORMS))
     expect_in(ran.out, "3 reports at 2 places (2 by the recorder); 1 process",
               "ERROR: asancol: heap-use-after-free: load of 4 bytes\n", "(by the recorder, 2 times, 1 process)\n",
               "suppression: at:alloc-dealloc-mismatch:drop@")

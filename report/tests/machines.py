@@ -5,7 +5,7 @@ import os
 from typing import Any, Dict
 
 from testing import expect, expect_in, expect_not_in
-from testing.reports import report, report_test
+from testing.reports import FORMS, report, report_test
 
 DAY = 86400
 START = 1700000000  # 2023-11-14 22:13:20 UTC
@@ -99,11 +99,10 @@ def machines_are_left_out(folder: str) -> None:
     outputs = []
     for host in ("beta", "gamma"):
         write_result(folder, "farm/1", host, START + len(host))
-        forms = ("json", "sarif", "junit", "html", "codequality")
-        ran = report(folder, "farm", "--no-machines", *(f"--{form}={form}" for form in forms))
+        ran = report(folder, "farm", "--no-machines", *(f"--{form}={form}" for form in FORMS))
         expect(ran.status, 1, ran.err)
         texts = [ran.out]
-        for form in forms:
+        for form in FORMS:
             with open(f"{folder}/{form}", encoding="utf-8") as file:
                 texts.append(file.read())
             expect_not_in(texts[-1], "alpha", "beta", "gamma", "2023-11", str(START)[:6])

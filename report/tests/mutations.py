@@ -113,7 +113,7 @@ def status_of(argv: List[str]) -> Tuple[int, str]:
 def cases_in(folder: str) -> List[Case]:
     """Makes whole files of each sort in a folder, from a trace that is written here."""
     reports.one_trace(folder)
-    outputs = [f"--{name}={folder}/out.{name}" for name in ("sarif", "junit", "codequality", "html", "json")]
+    outputs = [f"--{name}={folder}/out.{name}" for name in reports.FORMS]
     reports.report(folder, "--trace", "a.trace", "--json", "a.jsonl")
     with open(f"{folder}/a.jsonl", encoding="utf-8") as file:
         entries = [json.loads(line) for line in file]

@@ -11,7 +11,7 @@ from typing import Any, Dict, List, Optional, Set, Tuple
 import browser
 from testing import expect, expect_in, expect_not_in, leave_out, reports
 from testing.programs import call
-from testing.reports import END, FREED, Feed, build, freed_block, one_trace, report, report_test, write_trace
+from testing.reports import END, FORMS, FREED, Feed, build, freed_block, one_trace, report, report_test, write_trace
 from testing.side import fault, of_program, side
 
 
@@ -96,8 +96,7 @@ def bad_results(folder: str) -> None:
            "stack": [3, {"line": "x", "file": 4, "offset": "zz"}], "count": -1, "block": 4, "freed": {}}
     with open(f"{folder}/odd.jsonl", "w", encoding="utf-8") as file:
         file.write(run + json.dumps(odd) + "\n")
-    names = ("sarif", "junit", "codequality", "html", "json")
-    ran = report(folder, "odd.jsonl", *(f"--{name}=odd.{name}" for name in names))
+    ran = report(folder, "odd.jsonl", *(f"--{name}=odd.{name}" for name in FORMS))
     expect((ran.status, ran.err), (1, ""), "fields of other types")
 
 
@@ -335,7 +334,7 @@ def page_works(folder: str) -> None:
 def outputs_are_whole(folder: str) -> None:
     one_trace(folder)
     first = report(folder, "--trace", "a.trace", "--json", "a.jsonl")
-    for name in ("json", "sarif", "junit", "codequality", "html"):
+    for name in FORMS:
         ran = report(folder, "a.jsonl", f"--{name}", "/dev/full")
         expect((ran.status, ran.out), (4, first.out), name)
         expect(ran.err, "asancol-report: /dev/full: No space left on device\n", name)

@@ -8,6 +8,7 @@ from typing import Dict, List
 
 from support import CC, REPORT, Ran, Suite, expect, expect_in, expect_not_in, expect_ran
 from testing.programs import call
+from testing.reports import FORMS
 
 PROGRAM = """
 #include <stdlib.h>
@@ -75,12 +76,11 @@ def check_rules(suite: Suite, folder: str, compiler: str) -> None:
 
 def check_outputs(suite: Suite, folder: str, compiler: str) -> None:
     program = make(folder, compiler)
-    names = ("json", "sarif", "junit", "codequality", "html")
-    outputs = [f"--{name}={folder}/out.{name}" for name in names]
+    outputs = [f"--{name}={folder}/out.{name}" for name in FORMS]
     ran = run_it(suite, "--leaks=yes", *outputs, "--", program, "two")
     expect_ran(ran, 99)
     texts: Dict[str, str] = {}
-    for name in names:
+    for name in FORMS:
         with open(f"{folder}/out.{name}", encoding="utf-8") as file:
             texts[name] = file.read()
     lines: List[Dict[str, object]] = [json.loads(line) for line in texts["json"].splitlines()]
@@ -91,7 +91,7 @@ def check_outputs(suite: Suite, folder: str, compiler: str) -> None:
     expect(len(json.loads(texts["codequality"])), 3, "Code Quality")
     failures = xml.fromstring(texts["junit"]).iter("failure")
     expect(any("leak" in (it.get("type") or "") for it in failures), True, "JUnit")
-    for name in names:
+    for name in FORMS:
         expect_in(texts[name], "irect leak of 300 byte(s) in 3 object(s)")
     ran = run_it(suite, f"--json={folder}/sum.json", "--", program, "two")
     with open(f"{folder}/sum.json", encoding="utf-8") as file:

@@ -13,6 +13,7 @@ from lives import at_terminal
 from support import CC, REPORT, RUN, TOP, Failure, Ran, Suite, environment, expect, expect_in, expect_ran
 from testing.classes import THE_SAME, table_of_classes
 from testing.programs import call
+from testing.reports import FORMS
 
 PAST = "heap-buffer-overflow: store of 1 byte"
 CRASHED = "ended by SIGSEGV, by a store at address 0x10"
@@ -258,10 +259,10 @@ def check_baseline(suite: Suite, folder: str) -> None:
 
 def check_outputs(suite: Suite, folder: str) -> None:
     argv: List[str] = []
-    for form in ("json", "sarif", "codequality", "junit", "html"):
+    for form in FORMS:
         argv += [f"--{form}", f"{folder}/{form}"]
     expect_ran(run_real(suite, *argv, "--", suite.program, "past"), 99, PAST)
-    expect(sorted(os.listdir(folder)), ["codequality", "html", "json", "junit", "sarif"], "files")
+    expect(sorted(os.listdir(folder)), sorted(FORMS), "files")
     kinds = [it["type"] for it in read_lines(f"{folder}/json")]
     expect(kinds, ["run", "process", "finding"], "JSON lines")
     expect_ran(run_real(suite, "--html", "/dev/full", "--", suite.program, "past"), 99, PAST)
