@@ -44,10 +44,13 @@ enum { MAX_AT_ONCE = 64 };
 /* How many traces in files are checked at once. */
 enum { FILES_AT_ONCE = 8 };
 
-/* In seconds: between SIGTERM and SIGKILL of --timeout, between looks at the remaining processes, until a shortage is
-   tried again, until what does not end after the last cut is left alone, until there is a line of progress, and within
-   which two signals are one: the sender's, and that to our process group. */
-static const double GRACE = 5, LOOK = 1, SHORTAGE = 0.05, LAST = 30, PROGRESS = 2, TOGETHER = 0.5;
+/* In seconds. */
+static const double GRACE = 5;       /* between SIGTERM and SIGKILL of --timeout */
+static const double LOOK = 1;        /* between looks at the remaining processes */
+static const double SHORTAGE = 0.05; /* until a shortage is tried again */
+static const double LAST = 30;       /* after the last cut, until the rest is left alone */
+static const double PROGRESS = 2;    /* until there is a line of progress */
+static const double TOGETHER = 0.5;  /* within which two signals are one: the sender's, and that to our process group */
 
 static struct {
     const struct options *options;

@@ -1,4 +1,7 @@
-/* The ways out of a process that run none of its exit handlers, and those into another program. */
+/* The ways out of a process that run none of its exit handlers, and those into another program.
+
+   Called: by the program, in any thread, also in a handler and in a child of vfork. So nothing is allocated, and what
+   an exec is given as a list lies on the stack. */
 #define _GNU_SOURCE
 #include <errno.h>
 #include <fcntl.h>

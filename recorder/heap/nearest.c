@@ -6,9 +6,9 @@
 #include "heap/heap.h"
 #include "heap/retiring.h"
 #include "shadow/shadow.h"
+#include "stream/near.h"
 #include "stream/record.h"
 #include "stream/side.h"
-#include "stream/near.h"
 
 /* This many slots are searched on either side: in between are free ones, and what has none is passed at once. */
 enum { MOST_SLOTS = 1 << 12 };
