@@ -218,10 +218,10 @@ def package_is_whole(_: str, folder: str) -> None:
                "lib/asancol/cxx/libc++/__config"]
     wanted += ["lib/asancol/cxx/libstdc++/bits/basic_string.tcc", "lib/asancol/libasancol_preload.so"]
     wanted += ["lib/asancol/cargo/rustc", "lib/asancol/cargo/rustdoc"]
-    for name in completions.FOLDERS:
+    for name in completions.PROGRAMS:
         wanted += [f"share/bash-completion/completions/{name}", f"share/zsh/vendor-completions/_{name}"]
         wanted.append(f"share/fish/vendor_completions.d/{name}.fish")
-    for name in (*completions.FOLDERS, "asancol-cc", "asancol-c++", "asancol-fc", "asancol-gcc", "asancol-g++",
+    for name in (*completions.PROGRAMS, "asancol-cc", "asancol-c++", "asancol-fc", "asancol-gcc", "asancol-g++",
                  "asancol-clang", "asancol-clang++", "asancol-cargo"):
         wanted += [f"bin/{name}", f"share/man/man1/{name}.1.gz"]
     wanted += [f"share/man/man5/asancol-{it}.5.gz" for it in ("trace", "results")]

@@ -7,7 +7,7 @@ from random import Random
 from typing import List, Optional, Sequence
 
 from asancol_report.class_names import OF_ASANCOL
-from asancol_report.verdicts import END, REPORT, Report, report_of
+from asancol_report.verdicts import END, REPORT, Line, line_of
 from support import TOP, Suite, expect
 from testing import draws
 from testing.programs import call
@@ -56,7 +56,7 @@ def printed(suite: Suite, folder: str, number: int) -> List[str]:
     return lines
 
 
-def text_of(process: str, report: Report) -> str:
+def text_of(process: str, report: Line) -> str:
     size = "" if report.size is None else f" {report.size}"
     bad = "" if report.bad is None else f" bad {report.bad:012x}"
     shadow = report.shadow and f" shadow {report.shadow}"
@@ -72,7 +72,7 @@ def check_reports(suite: Suite, folder: str) -> None:
             report, end = REPORT.fullmatch(line.encode()), END.fullmatch(line.encode())
             expect(bool(report) + bool(end), 1, f"what {line!r} is read as")
             if report:
-                found = report_of(report)
+                found = line_of(report)
                 expect(text_of(line.split(" ")[0], found), line, "a report")
                 seen.add(found.class_name)
     expect(seen, set(OF_ASANCOL), "classes")
