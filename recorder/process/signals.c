@@ -308,7 +308,7 @@ void signals_handle(void)
 #ifdef IS_STATIC
 extern int real_sigaction(int, const struct sigaction *, struct sigaction *) NAMED("__sigaction");
 #else
-extern int real_sigaction(int, const struct sigaction *, struct sigaction *) __asm__("__real_sigaction");
+extern int real_sigaction(int, const struct sigaction *, struct sigaction *) NAMED("__real_sigaction");
 #endif
 
 /* The action set in place of the program's. */
