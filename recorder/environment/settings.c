@@ -249,8 +249,8 @@ static void read_options_of_asan(struct settings *settings)
 /* The same for classes that are on or off by default as there. */
 static void read_classes(struct settings *settings)
 {
-    bool looks_at_order = asan_options_say(ASAN_check_initialization_order, false);
-    uint64_t order = looks_at_order ? 1 + asan_options_say(ASAN_strict_init_order, false) : 0;
+    bool is_strict = asan_options_say(ASAN_strict_init_order, false); /* by itself, too */
+    uint64_t order = is_strict ? 2 : asan_options_say(ASAN_check_initialization_order, false);
     uint64_t odr = asan_options_level(ASAN_detect_odr_violation, 2, 2);
     uint64_t pairs = asan_options_level(ASAN_detect_invalid_pointer_pairs, 2, 0);
     uint64_t may_return_null = asan_options_say(ASAN_allocator_may_return_null, false);

@@ -104,7 +104,7 @@ def check_order(suite: Suite, folder: str, compiler: Compiler, names: Sequence[s
     write(folder, first_cpp=FIRST, second_cpp=SECOND)
     compiler.cpp(folder, names, f"{folder}/recorded", "-O0")
     compiler.cpp(folder, names, f"{folder}/sanitized", "-O0", "-fsanitize=address", native=True)
-    options = f"check_initialization_order={int(level > 0)}:strict_init_order={int(level > 1)}"
+    options = "strict_init_order=1" if level > 1 else f"check_initialization_order={level}"
     said = class_said(folder, "./sanitized", options)
     found = found_in(folder, "./recorded", ASANCOL_INIT_ORDER=str(level))
     expect(found, [], "findings without an event")
