@@ -54,6 +54,12 @@ PIECES = "AddressSanitizer names the class by the first byte, which is good; her
 # Tests with executions that are not the same.
 KNOWN: List[Row] = [
     Row("compiler-rt", "Linux/interception_test.cpp", "what lies below a program's own function is not checked"),
+    Row("compiler-rt", "Linux/odr-violation.cpp",
+        "a violation, which AddressSanitizer does not see with private aliases and no indicators"),
+    Row("compiler-rt", "Linux/odr_c_test.c", "AddressSanitizer reports an unaligned variable of code without checks"),
+    Row("compiler-rt", "Linux/quarantine_size_mb.cpp", "AddressSanitizer refuses two options together"),
+    Row("compiler-rt", "Linux/thread_local_quarantine_size_kb.cpp", "AddressSanitizer refuses two options together"),
+    Row("compiler-rt", "Posix/closed-fds.cpp", "AddressSanitizer's report goes to a file"),
     Row("compiler-rt", "Linux/printf-fortify-5.c",
         "AddressSanitizer fills a new block with bytes that are no end of a format; here its first byte is one"),
     Row("compiler-rt", "Linux/stack-trace-dlclose.cpp",
