@@ -71,6 +71,8 @@ KNOWN: List[Row] = [
         "AddressSanitizer ends in a check before it has named the free"),
     Row("compiler-rt", "wild_pointer.cpp",
         "AddressSanitizer looks at the end of the range first, which no process has; here the first bad byte counts"),
+    Row("compiler-rt", "contiguous_container_crash.cpp",
+        "a container may begin at any address, as with later versions of AddressSanitizer"),
     Row("gcc", "c-c++-common/asan/misalign-*", PIECES),
     Row("gcc", "g++.dg/asan/interception-test-1.C", "what lies below a program's own function is not checked"),
 ]
