@@ -270,7 +270,8 @@ static __attribute__((noinline)) void *allocate_slowly(size_t size, size_t align
                                                        const struct use *use)
 {
     void *address = NULL;
-    bool fits = size <= PTRDIFF_MAX - UNIT && alignment <= MAX_ALIGNMENT, has_entered = fits && heap_enter();
+    size_t most = heap.is_unpainted ? PTRDIFF_MAX - UNIT : MAX_REQUEST;
+    bool fits = size <= most && alignment <= MAX_ALIGNMENT, has_entered = fits && heap_enter();
     if (has_entered) {
         address = allocate_entered(size, alignment, from, use);
         if (address != NULL && zeroed && is_small(size, alignment))

@@ -159,7 +159,7 @@ static const struct {
     {"posix_memalign",
      [] { kept = nullptr; if (posix_memalign((void **)&kept, large(2), 16) == 0) abort(); }}, // posix_memalign
     {"memalign", [] { kept = memalign(large(7), 16); }},                // memalign
-    {"too_big", [] { kept = malloc(large((size_t)1 << 60)); }},         // too_big
+    {"too_big", [] { kept = malloc(large(((size_t)1 << 40) + 1)); }},         // too_big
     {"usable_of_freed",
      [] { kept = malloc(4); free(kept); printf("%zu\n", malloc_usable_size(kept)); }}, // usable_of_freed
 };
