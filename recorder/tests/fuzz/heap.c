@@ -27,6 +27,7 @@
 #include "shadow/mapping.h"
 #include "shadow/unused.h"
 #include "stream/keeping.h"
+#include "stream/near.h"
 #include "stream/record.h"
 #include "stream/side.h"
 
@@ -69,7 +70,10 @@ bool families_differ(const struct block *block, const struct release *release)
     return (void)block, (void)release, false;
 }
 void families_look_at(const struct block *block, const struct release *release) { (void)block, (void)release; }
-void families_note_too_big(size_t size, uintptr_t caller) { (void)size, (void)caller; }
+void families_note_refused(size_t size, uintptr_t caller, enum family family, bool is_too_big)
+{
+    (void)size, (void)caller, (void)family, (void)is_too_big;
+}
 void record_unused(uint64_t address, uint64_t size) { (void)address, (void)size; }
 void record_free(uint64_t address) { (void)address, events++; }
 void record_bad_free(uint64_t address, uintptr_t caller, const char *call)
