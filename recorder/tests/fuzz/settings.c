@@ -9,6 +9,20 @@
 #include "common/format.h"
 #include "environment/startup.h"
 #include "environment/settings.h"
+#include "environment/orphan.h"
+
+/* No run of an ancestor is looked for. */
+const char *orphan_value(const char *name)
+{
+    return (void)name, NULL;
+}
+
+/* AddressSanitizer's runtime asks for it here, as the recorder does. */
+const char *__lsan_default_suppressions(void);
+const char *__lsan_default_suppressions(void)
+{
+    return NULL;
+}
 
 struct startup startup;
 
