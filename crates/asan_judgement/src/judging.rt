@@ -4,7 +4,7 @@ ghost use Rattle.std.specs.Prelude.{◌≡◌, ◌≢◌, true, false, IfSome, I
 ghost use Rattle.asan_judgement.specs.Complete.{is_cut_off, is_complete, IsComplete};
 ghost use Rattle.asan_judgement.specs.Complete.{LacksNothing, WasChecked, WasSeen, IsInTime, HasBegun};
 ghost use Rattle.asan_judgement.specs.Complete.{HasAllByAnEnd, WasSeenUpToThere};
-ghost use Rattle.asan_judgement.specs.Reasons.{IsTrueOf, IsGoneAbruptly};
+ghost use Rattle.asan_judgement.specs.Reasons.{IsTrueOf, IsGoneAbruptly, answer_for};
 ghost use Rattle.asan_judgement.specs.declared.facts.Fate.TheVariants.{NotChecked, NoMemory, TooMany};
 ghost use Rattle.asan_judgement.specs.declared.facts.Ending.TheVariants.{Unheard, Signal};
 ghost use Rattle.asan_judgement.specs.declared.verdict.Answer.TheVariants.{UpToThere, Unchecked, Incomplete};
@@ -33,6 +33,7 @@ pub fn judge(fate: Fate, ending: Ending, facts: &Facts) -> Verdict
     ensures unchecked { result.answer ≡ Unchecked → facts.now.checks ≡ false }
     ensures lacks_checks_alone { result.answer ≡ Unchecked → LacksNothing facts.now }
     ensures why { IsTrueOf result.why fate ending facts.now }
+    ensures answer { result.answer ≡ answer_for result.why }
 {
     if let Some(why) = what_was_lost(fate, ending, facts) {
         return incomplete(why);
@@ -58,6 +59,7 @@ fn incomplete(why: Why) -> Verdict
 /// What makes a process incomplete, however its trace ended.
 fn what_was_lost(fate: Fate, ending: Ending, facts: &Facts) -> Option<Why>
     ensures why { IfSome result (λ it. IsTrueOf it fate ending facts.now) }
+    ensures answer { IfSome result (λ it. answer_for it ≡ Incomplete) }
     ensures some { IsSome result → IsComplete fate ending facts.now → ⊥ }
     ensures lacks { IfNone result (LacksNothing facts.now) }
     ensures in_time { IfNone result (IsInTime fate ending facts.now) }
@@ -115,6 +117,7 @@ fn judge_gone(fate: Fate, ending: Ending, facts: &Facts) -> Verdict
     ensures replaced { facts.now.replaced ≡ true → result.answer ≢ UpToThere }
     ensures unchecked { result.answer ≡ Unchecked → facts.now.checks ≡ false }
     ensures why { IsTrueOf result.why fate ending facts.now }
+    ensures answer { result.answer ≡ answer_for result.why }
 {
     let (answer, why) = if !facts.checks {
         (Answer::Unchecked, Why::GoneUnchecked)
@@ -135,6 +138,7 @@ fn judge_gone(fate: Fate, ending: Ending, facts: &Facts) -> Verdict
 /// What is missing up to the end of the process.
 fn what_did_not_come(fate: Fate, ending: Ending, facts: &Facts) -> Option<Why>
     ensures why { IfSome result (λ it. IsTrueOf it fate ending facts.now) }
+    ensures answer { IfSome result (λ it. answer_for it ≡ Incomplete) }
     ensures some { IsSome result → HasAllByAnEnd fate ending facts.now → WasChecked fate
         → facts.now.all_came ≡ true → facts.now.beside ≡ true → ⊥ }
     ensures all { IfNone result (facts.now.all_came ≡ true) }
@@ -190,6 +194,7 @@ fn judge_seen(fate: Fate, ending: Ending, facts: &Facts) -> Verdict
     ensures abrupt { result.answer ≡ UpToThere → ending ≡ Signal }
     ensures unchecked { result.answer ≡ Unchecked → facts.now.checks ≡ false }
     ensures why { IsTrueOf result.why fate ending facts.now }
+    ensures answer { result.answer ≡ answer_for result.why }
 {
     let (answer, why) = if !facts.checks {
         (Answer::Unchecked, Why::Unchecked)

@@ -1,6 +1,6 @@
 //! The status of a run.
 
-ghost use Rattle.std.specs.Prelude.{◌≡◌, ◌≢◌, true, false};
+ghost use Rattle.std.specs.Prelude.{◌≡◌, ◌≢◌, ◌⊎◌, true, false};
 ghost use Rattle.std.specs.List.{list_all, list_any};
 ghost use Rattle.asan_judgement.specs.Runs.{was_complete, was_unchecked, was_complete_or_unchecked};
 ghost use Rattle.asan_judgement.specs.Runs.{has_report, all_seen, is_report_counted};
@@ -147,6 +147,12 @@ pub fn status_of(processes: &[Process], run: &Run, statuses: &Statuses) -> u8
     ensures command { NoReportSays statuses.now run.now processes.now
         → all_seen run.now processes.now ≡ true → run.now.is_empty ≡ false
         → result ≡ run.now.command }
+    ensures incomplete_unasked { NoReportSays statuses.now run.now processes.now
+        → (all_seen run.now processes.now ≡ false) ⊎ (run.now.command ≢ 0)
+        → statuses.now.incomplete ≡ 0 → result ≡ run.now.command }
+    ensures nothing_unasked { NoReportSays statuses.now run.now processes.now
+        → all_seen run.now processes.now ≡ true
+        → statuses.now.nothing ≡ 0 → result ≡ run.now.command }
 {
     let is_all_seen = is_all_seen(processes, run);
     let is_nothing = run.is_empty && statuses.nothing != 0;

@@ -24,7 +24,7 @@ use Rattle.shadow_map.proofs.Fronts.{redzone_or}
 use Rattle.asan_check.proofs.Blocks.{live_placed}
 use Rattle.asan_laws.proofs.Blocks.{held_placed}
 use Rattle.asan_laws.proofs.Frames.{IsInSpan}
-use Rattle.asan_laws.proofs.Bytes.{live_inside, live_span, held_bytes}
+use Rattle.asan_laws.proofs.Bytes.{live_inside, live_span, held_bytes, no_poison_there, neither_there}
 
 -- ---- by states
 
@@ -67,18 +67,19 @@ module _ (states : ℕ → State) where
   least_first from zero some bad = absurd (omega arith)
   least_first from (suc count) some bad = rw bad refl
 
-  -- where all of an access's bytes are addressable nothing is wrong with it
+  -- where all of an access's bytes in the granule of its first one are addressable nothing is wrong with it
   no_fault : (is_store : Bool) (a : Access) →
-      ((byte : ℕ) → a.at ≤ byte → byte < a.at + a.width → states byte ≡ Addressable)
+      ((byte : ℕ) → a.at ≤ byte → byte < a.at + a.width → byte < 8 * (a.at / 8) + 8 → states byte ≡ Addressable)
       → access_fault states is_store a ≡ None
   no_fault is_store a all =
       let none : bad_byte_of states a.at a.width ≡ None =
       least_none a.at (min a.width (8 - a.at % 8))
-      (λ byte above below. all byte above (let le = min_le a.width (8 - a.at % 8) in omega arith)) in
+      (λ byte above below. all byte above (let le = (min_le a.width (8 - a.at % 8)).0 in omega arith)
+      (let le = (min_le a.width (8 - a.at % 8)).1 in omega arith)) in
       rw none refl
     where
-      min_le : (m n : ℕ) → min m n ≤ m
-      min_le m n = omega arith
+      min_le : (m n : ℕ) → (min m n ≤ m) × (min m n ≤ n)
+      min_le m n = (omega arith, omega arith)
 
   -- where its first byte is not, that one is bad
   pub first_fault : (is_store : Bool) (a : Access) → is_addressable (states a.at) ≡ false →
@@ -146,6 +147,24 @@ module _ (states : ℕ → State) where
         counted : (m code : ℕ) → 0 < m → m < 8 → cond (eqb m 8) 0 (cond (eqb m 0) code m) ≡ m
         counted m code lt lt' = grind (arith, nat_tests)
 
+-- an access that starts in a granule of freed memory
+some_fault : (is_store : Bool) (a : Access) (c d : Class) (v w : ℕ) → c ≡ d → v ≡ w →
+    (let f : Option Fault = Some (fault.Access is_store a.width a.at a.at c v) in f)
+    ≡ Some (fault.Access is_store a.width a.at a.at d w)
+some_fault is_store a c d v w p q = rw (p, q) refl
+
+pub freed_fault : (states : ℕ → State) (is_store : Bool) (a : Access)
+    → ((byte : ℕ) → 8 * (a.at / 8) ≤ byte → byte < 8 * (a.at / 8) + 8 → states byte ≡ Freed) →
+    access_fault states is_store a
+    ≡ Some (fault.Access is_store a.width a.at a.at class.HeapUseAfterFree (code_of Freed))
+freed_fault states is_store a each =
+    let base = each (8 * (a.at / 8)) (omega arith) (omega arith) in
+    let none : (i : ℕ) → i < 8 → is_addressable (states (8 * (a.at / 8) + i)) ≡ false =
+    λ i lt. ap is_addressable (each (8 * (a.at / 8) + i) (omega arith) (omega arith)) in
+    first_fault states is_store a (ap is_addressable (each a.at (omega arith) (omega arith)))
+    ∙ some_fault is_store a _ _ _ _ (own_class states a.at none ∙ ap class_of_its_code base)
+    (own_shadow states (a.at / 8) (ap is_addressable base) ∙ ap code_of base)
+
 -- a fault of an access, as its verdict
 pub verdict_from : (bound : ℕ) (past : List Event) (is_store : Bool) (a : Access) (o : Option Fault)
     → access_fault (state_of (marks bound past)) is_store a ≡ o →
@@ -156,13 +175,15 @@ verdict_from bound past false a o is = ap (option_map (λ f. record { number = l
 -- ---- the laws
 
 pub quiet : (bound : ℕ) (past : List Event) (b : Extent) (is_store : Bool) (a : Access) → Contains (live bound past) b
-    → LiesInside b a →
-    NoPoisonShares (since_malloc bound past b) b.at (b.at + b.size)
+    → LiesInside b a → NoPoisonShares (since_malloc bound past b) a.at (a.at + 1)
     → verdict bound past (access_event is_store a) ≡ None
 quiet bound past b is_store a has inside clear =
     verdict_from bound past is_store a None
-    (no_fault (state_of (marks bound past)) is_store a (λ byte above below. let from = inside.0 in let to = inside.1 in
-    live_inside bound past b byte has (omega arith) (omega arith) clear))
+    (no_fault (state_of (marks bound past)) is_store a (λ byte above below here.
+    let from = inside.0 in
+    let to = inside.1 in
+    live_inside bound past b byte (8 * (a.at / 8)) (8 * (a.at / 8) + 8) has (omega arith) (omega arith)
+    (omega arith, here) (no_poison_there (since_malloc bound past b) a.at clear)))
 
 -- the numbers of the last granule of a block, where an address past its bytes lies there
 tail_granule : (at size place : ℕ) → at % 8 ≡ 0 → at + size ≤ place → place < at + round_up size
@@ -173,38 +194,42 @@ tail_test : (at size base k i : ℕ) → at ≤ base → base + k ≡ at + size 
     → lies_in at (at + size) (base + i) ≡ ltb i k
 tail_test at size base k i le is lt = grind (arith, nat_tests)
 
-module _ (states : ℕ → State) (b : Extent) (placed : IsPlaced b) (each : (byte : ℕ) → IsInSpan b byte
-    → states byte ≡ cond (lies_in b.at (b.at + b.size) byte) Addressable HeapRedzone) where
-  outside : (byte : ℕ) → IsInSpan b byte → (byte < b.at) ⊎ (b.at + b.size ≤ byte) → states byte ≡ HeapRedzone
-  outside byte in_span out =
-      let off : lies_in b.at (b.at + b.size) byte ≡ false = grind (arith, nat_tests) in
-      each byte in_span ∙ rw off refl
+outside_is : (b : Extent) (byte : ℕ) → (byte < b.at) ⊎ (b.at + b.size ≤ byte)
+    → cond (lies_in b.at (b.at + b.size) byte) Addressable HeapRedzone ≡ HeapRedzone
+outside_is b byte out =
+    let off : lies_in b.at (b.at + b.size) byte ≡ false = grind (arith, nat_tests) in rw off refl
+
+-- an address in a block's span, where the bytes of its granule have what the block's malloc gave to them
+module _ (states : ℕ → State) (b : Extent) (placed : IsPlaced b) (at : ℕ) (each : (byte : ℕ) → IsInSpan b byte
+    → byte / 8 ≡ at / 8 → states byte ≡ cond (lies_in b.at (b.at + b.size) byte) Addressable HeapRedzone) where
+  outside : (byte : ℕ) → IsInSpan b byte → byte / 8 ≡ at / 8 → (byte < b.at) ⊎ (b.at + b.size ≤ byte)
+      → states byte ≡ HeapRedzone
+  outside byte in_span here out = each byte in_span here ∙ outside_is b byte out
 
   -- in a redzone's granule
-  in_redzone : (at : ℕ) → IsInSpan b at → (at < b.at) ⊎ (b.at + round_up b.size ≤ at)
+  in_redzone : IsInSpan b at → (at < b.at) ⊎ (b.at + round_up b.size ≤ at)
       → (class_of states at ≡ class.HeapBufferOverflow) × (lift states (at / 8) ≡ code_of HeapRedzone)
-  in_redzone at in_span out =
+  in_redzone in_span out =
       let from = in_span.from in
       let to = in_span.to in
       let aligned = placed.0 in
       let above = placed.1 in
-      let base_in : IsInSpan b (8 * (at / 8)) = record { from = omega arith; to = omega arith } in
-      let base_out : (8 * (at / 8) < b.at) ⊎ (b.at + b.size ≤ 8 * (at / 8)) =
-      elim out [ inl less ↦ inl (omega arith) | inr more ↦ inr (omega arith) ] in
-      let is = outside (8 * (at / 8)) base_in base_out in
-      let bad : is_addressable (states (8 * (at / 8))) ≡ false = ap is_addressable is in
-      let none : (i : ℕ) → i < 8 → is_addressable (states (8 * (at / 8) + i)) ≡ false =
+      let each_is : (i : ℕ) → i < 8 → states (8 * (at / 8) + i) ≡ HeapRedzone =
       λ i lt.
       let in_it : IsInSpan b (8 * (at / 8) + i) = record { from = omega arith; to = omega arith } in
       let out_of_it : (8 * (at / 8) + i < b.at) ⊎ (b.at + b.size ≤ 8 * (at / 8) + i) =
       elim out [ inl less ↦ inl (omega arith) | inr more ↦ inr (omega arith) ] in
-      ap is_addressable (outside (8 * (at / 8) + i) in_it out_of_it) in
-      (own_class states at none ∙ ap class_of_its_code is, own_shadow states (at / 8) bad ∙ ap code_of is)
+      outside (8 * (at / 8) + i) in_it (omega arith) out_of_it in
+      let is : states (8 * (at / 8)) ≡ HeapRedzone = rw (← add-zero (8 * (at / 8))) (each_is 0 (omega arith)) in (
+        own_class states at (λ i lt. ap is_addressable (each_is i lt)) ∙ ap class_of_its_code is,
+        own_shadow states (at / 8) (ap is_addressable is) ∙ ap code_of is,
+      )
 
-  -- in the granule of the block's last bytes
-  in_tail_granule : (at : ℕ) → b.at + b.size ≤ at → at < b.at + round_up b.size
-      → (class_of states at ≡ class.HeapBufferOverflow) × (lift states (at / 8) ≡ b.size % 8)
-  in_tail_granule at past within =
+  -- in the granule of the block's last bytes: the next one says the class
+  in_tail_granule : b.at + b.size ≤ at → at < b.at + round_up b.size →
+      (states (8 * (at / 8 + 1)) ≡ HeapRedzone → class_of states at ≡ class.HeapBufferOverflow)
+      × (lift states (at / 8) ≡ b.size % 8)
+  in_tail_granule past within =
       let aligned = placed.0 in
       let above = placed.1 in
       let numbers = tail_granule b.at b.size at aligned past within in
@@ -213,29 +238,34 @@ module _ (states : ℕ → State) (b : Extent) (placed : IsPlaced b) (each : (by
       let run : (i : ℕ) → i < 8 → is_addressable (states (8 * (at / 8) + i)) ≡ ltb i (b.size % 8) =
       λ i lt.
       let in_span : IsInSpan b (8 * (at / 8) + i) = record { from = omega arith; to = omega arith } in
-      ap is_addressable (each (8 * (at / 8) + i) in_span) ∙ redzone_or (lies_in b.at (b.at + b.size) (8 * (at / 8) + i))
-      ∙ tail_test b.at b.size (8 * (at / 8)) (b.size % 8) i (omega arith) whole lt in
-      let next_in : IsInSpan b (8 * (at / 8 + 1)) = record { from = omega arith; to = omega arith } in
-      let next = outside (8 * (at / 8 + 1)) next_in (inr (omega arith)) in (
-        next_class states at (b.size % 8) some (omega arith) run
-            ∙ ap class_of_its_code next,
+      ap is_addressable (each (8 * (at / 8) + i) in_span (omega arith))
+      ∙ redzone_or (lies_in b.at (b.at + b.size) (8 * (at / 8) + i))
+      ∙ tail_test b.at b.size (8 * (at / 8)) (b.size % 8) i (omega arith) whole lt in (
+        λ next. next_class states at (b.size % 8) some (omega arith) run ∙ ap class_of_its_code next,
         part_shadow states at (b.size % 8) some (omega arith) run,
       )
 
-  around : (at : ℕ) → IsInSpan b at → (at < b.at) ⊎ (b.at + b.size ≤ at)
-      → (class_of states at ≡ class.HeapBufferOverflow) × (lift states (at / 8) ≡ shadow_around b at)
-  around at in_span out = go (lies_in b.at (b.at + round_up b.size) at) refl
+  around : IsInSpan b at → (at < b.at) ⊎ (b.at + b.size ≤ at) →
+      ((IsInSpan b (8 * (at / 8 + 1)) → b.at + b.size ≤ 8 * (at / 8 + 1) → states (8 * (at / 8 + 1)) ≡ HeapRedzone)
+      → class_of states at ≡ class.HeapBufferOverflow) × (lift states (at / 8) ≡ shadow_around b at)
+  around in_span out = go (lies_in b.at (b.at + round_up b.size) at) refl
     where
-      go : (t : Bool) → lies_in b.at (b.at + round_up b.size) at ≡ t
-          → (class_of states at ≡ class.HeapBufferOverflow)
+      go : (t : Bool) → lies_in b.at (b.at + round_up b.size) at ≡ t →
+          ((IsInSpan b (8 * (at / 8 + 1)) → b.at + b.size ≤ 8 * (at / 8 + 1) → states (8 * (at / 8 + 1)) ≡ HeapRedzone)
+          → class_of states at ≡ class.HeapBufferOverflow)
           × (lift states (at / 8) ≡ cond t (b.size % 8) (code_of HeapRedzone))
       go true is =
           let above : b.at ≤ at = grind (arith, nat_tests) in
           let below : at < b.at + round_up b.size = grind (arith, nat_tests) in
           let past : b.at + b.size ≤ at = grind (arith, nat_tests) in
-          in_tail_granule at past below
-      go false is = let out : (at < b.at) ⊎ (b.at + round_up b.size ≤ at) =
-          beyond b.at (b.at + round_up b.size) at is in in_redzone at in_span out
+          let aligned = placed.0 in
+          let low = placed.1 in
+          let found = in_tail_granule past below in (
+            λ next. found.0 (next (record { from = omega arith; to = omega arith }) (omega arith)),
+            found.1,
+          )
+      go false is =
+          let found = in_redzone in_span (beyond b.at (b.at + round_up b.size) at is) in (λ next. found.0, found.1)
         where
           beyond : (from to byte : ℕ) → lies_in from to byte ≡ false → (byte < from) ⊎ (to ≤ byte)
           beyond from to byte off = grind (arith, nat_tests)
@@ -245,46 +275,58 @@ pub some_report : (past : List Event) (is_store : Bool) (a : Access) (c d : Clas
     (Some (fault.Access is_store a.width a.at a.at c v)) ≡ Some (first_byte_report past is_store a d w)
 some_report past is_store a c d v w p q = rw (p, q) refl
 
-pub overflow : (bound : ℕ) (past : List Event) (b : Extent) (is_store : Bool) (a : Access)
-    → Contains (live bound past) b → StartsAround b a →
-    NoPoisonShares (since_malloc bound past b) (span_from b) (span_to b)
-    → NoUnpoisonShares (since_malloc bound past b) (span_from b) (span_to b) →
-    verdict bound past (access_event is_store a)
-    ≡ Some (first_byte_report past is_store a class.HeapBufferOverflow (shadow_around b a.at))
-overflow bound past b is_store a has start clear clear' =
-    let states = state_of (marks bound past) in
-    let placed = live_placed bound past b has in
-    let each : (byte : ℕ) → IsInSpan b byte → states byte
-    ≡ cond (lies_in b.at (b.at + b.size) byte) Addressable HeapRedzone =
-    λ byte in_span.
-    live_span bound past b byte (span_from b) (span_to b) has in_span in_span.from in_span.to (clear, clear') in
-    let here : IsInSpan b a.at = record { from = start.0; to = start.1 } in
-    let bad = ap is_addressable (outside states b placed each a.at here start.2) in
-    let reported = around states b placed each a.at here start.2 in
-    verdict_from bound past is_store a _ (first_fault states is_store a bad)
-    ∙ some_report past is_store a _ _ _ _ reported.0 reported.1
+-- what is said of an access in a block's span, before or past its bytes, as far as its own granule shows
+module _ (bound : ℕ) (past : List Event) (b : Extent) (is_store : Bool) (a : Access)
+    (has : Contains (live bound past) b) (start : StartsAround b a) where
+  here : IsInSpan b a.at
+  here = record { from = start.0; to = start.1 }
+
+  pub overflow_said : NoPoisonShares (since_malloc bound past b) a.at (a.at + 1)
+      → NoUnpoisonShares (since_malloc bound past b) a.at (a.at + 1) →
+      (said : Class) × (verdict bound past (access_event is_store a)
+      ≡ Some (first_byte_report past is_store a said (shadow_around b a.at)))
+  overflow_said clear clear' =
+      let states = state_of (marks bound past) in
+      let placed = live_placed bound past b has in
+      let each : (byte : ℕ) → IsInSpan b byte → byte / 8 ≡ a.at / 8 → states byte
+      ≡ cond (lies_in b.at (b.at + b.size) byte) Addressable HeapRedzone =
+      λ byte in_span same.
+      live_span bound past b byte (8 * (a.at / 8)) (8 * (a.at / 8) + 8) has in_span (omega arith) (omega arith)
+      (neither_there (since_malloc bound past b) a.at clear clear') in
+      let bad = ap is_addressable (outside states b placed a.at each a.at here refl start.2) in (
+        class_of states a.at,
+        verdict_from bound past is_store a _ (first_fault states is_store a bad)
+            ∙ some_report past is_store a _ _ _ _ refl (around states b placed a.at each here start.2).1,
+      )
+
+  pub overflow : NoPoisonShares (since_malloc bound past b) (span_from b) (span_to b)
+      → NoUnpoisonShares (since_malloc bound past b) (span_from b) (span_to b) →
+      verdict bound past (access_event is_store a)
+      ≡ Some (first_byte_report past is_store a class.HeapBufferOverflow (shadow_around b a.at))
+  overflow clear clear' =
+      let states = state_of (marks bound past) in
+      let placed = live_placed bound past b has in
+      let each : (byte : ℕ) → IsInSpan b byte → states byte
+      ≡ cond (lies_in b.at (b.at + b.size) byte) Addressable HeapRedzone =
+      λ byte in_span.
+      live_span bound past b byte (span_from b) (span_to b) has in_span in_span.from in_span.to (clear, clear') in
+      let own : (byte : ℕ) → IsInSpan b byte → byte / 8 ≡ a.at / 8 → states byte
+      ≡ cond (lies_in b.at (b.at + b.size) byte) Addressable HeapRedzone = λ byte in_span same. each byte in_span in
+      let bad = ap is_addressable (outside states b placed a.at own a.at here refl start.2) in
+      let reported = around states b placed a.at own here start.2 in
+      verdict_from bound past is_store a _ (first_fault states is_store a bad)
+      ∙ some_report past is_store a _ _ _ _
+      (reported.0 (λ in_span past_it. each _ in_span ∙ outside_is b _ (inr past_it))) reported.1
 
 pub late : (bound : ℕ) (past : List Event) (b : Extent) (is_store : Bool) (a : Access) → Contains (held bound past) b
-    → StartsWithin b a →
-    NoPoisonShares (since_free bound past b) b.at (b.at + round_up b.size)
-    → NoUnpoisonShares (since_free bound past b) b.at (b.at + round_up b.size) →
+    → StartsWithin b a → NoPoisonShares (since_free bound past b) a.at (a.at + 1)
+    → NoUnpoisonShares (since_free bound past b) a.at (a.at + 1) →
     verdict bound past (access_event is_store a)
     ≡ Some (first_byte_report past is_store a class.HeapUseAfterFree (code_of Freed))
 late bound past b is_store a has start clear clear' =
-    let states = state_of (marks bound past) in
     let from = start.0 in
     let to = start.1 in
-    let placed = held_placed bound past b has in
-    let aligned = placed.0 in
-    let each : (byte : ℕ) → b.at ≤ byte → byte < b.at + round_up b.size
-    → states byte ≡ Freed =
-    λ byte above below.
-    held_bytes bound past b byte b.at (b.at + round_up b.size) has above below above below (clear, clear') in
-    let bad = ap is_addressable (each a.at from to) in
-    let base = each (8 * (a.at / 8)) (omega arith) (omega arith) in
-    let closed = ap is_addressable base in
-    let none : (i : ℕ) → i < 8 → is_addressable (states (8 * (a.at / 8) + i)) ≡ false =
-    λ i lt. ap is_addressable (each (8 * (a.at / 8) + i) (omega arith) (omega arith)) in
-    verdict_from bound past is_store a _ (first_fault states is_store a bad)
-    ∙ some_report past is_store a _ _ _ _ (own_class states a.at none
-    ∙ ap class_of_its_code base) (own_shadow states (a.at / 8) closed ∙ ap code_of base)
+    let aligned = (held_placed bound past b has).0 in
+    verdict_from bound past is_store a _ (freed_fault (state_of (marks bound past)) is_store a (λ byte above below.
+    held_bytes bound past b byte (8 * (a.at / 8)) (8 * (a.at / 8) + 8) has (omega arith) (omega arith) above below
+    (neither_there (since_free bound past b) a.at clear clear')))

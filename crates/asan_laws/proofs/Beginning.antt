@@ -19,12 +19,11 @@ use Rattle.asan_check.specs.History.{live, held}
 use Rattle.asan_check.specs.Verdicts.{verdicts_of}
 use Rattle.asan_check.proofs.Members.{in_none, in_head, apart_right}
 use Rattle.asan_laws.specs.Snapshots.{LaysOut, lays_none, lays_live, lays_held, is_shade, IsSnapshot}
-use Rattle.asan_laws.specs.Recording.{HaveBlocksBut, HaveSameBlocks, shadow_bytes, Records, begins, block}
+use Rattle.asan_laws.specs.Recording.{HaveBlocksBut, HaveSameBlocks, IsSameInDetail, Records, begins, block}
 use Rattle.asan_laws.specs.Recording.{leaves_out_shade, is_of_block, without_shades, IsSnapshotBut, NoMallocMeets}
 use Rattle.asan_laws.proofs.Snapshots.{Fit, fit_of, Stand, stands}
-use Rattle.asan_laws.proofs.Finding.{found_fault}
 use Rattle.asan_laws.proofs.Reported.{keeps, reported_alike}
-use Rattle.asan_laws.proofs.SameBlocks.{say_the_same}
+use Rattle.asan_laws.proofs.Said.{says_in_detail}
 
 -- ---- blocks that fit, but for some of the held ones
 
@@ -59,7 +58,7 @@ all_of_blocks laid lives helds (lays_held r p past ls hs here way) = all_of_bloc
 module _ (bound : ℕ) where
   -- mallocs and frees record the same with poisons and unpoisons among them
   way_of : (past : List Event) → list_all is_of_block (without_shades past) ≡ true
-      → Records bound shadow_bytes [] [] (without_shades past) past
+      → Records bound [] [] (without_shades past) past
   way_of [] all = begins
   way_of (e ∷ past) all =
       elim (cases_Bool (is_shade e)) [
@@ -83,7 +82,7 @@ module _ (bound : ℕ) where
   shaded_blocks : (past : List Event) → list_all is_of_block (without_shades past) ≡ true
       → HaveSameBlocks bound (without_shades past) past
   shaded_blocks past all =
-      let still = keeps bound shadow_bytes [] [] [] at_start (without_shades past) past (none_cut [] past)
+      let still = keeps bound [] [] [] at_start (without_shades past) past (none_cut [] past)
       (way_of past all) in
       subst (λ cut. HaveBlocksBut bound cut (without_shades past) past) (none_left still.left still.part) still.blocks
 
@@ -95,9 +94,8 @@ module _ (bound : ℕ) where
   shaded_quiet : (past : List Event) → list_all is_of_block (without_shades past) ≡ true
       → verdicts_of bound (without_shades past) ≡ [] → verdicts_of bound past ≡ []
   shaded_quiet past all quiet =
-      let alike = reported_alike bound shadow_bytes [] [] [] at_start ◌≡◌ (λ f. refl)
-      (λ b has. absurd (in_none b has)) (λ recorded run is_store a finds. say_the_same ◌≡◌ (λ f. refl) _ _
-      (found_fault bound recorded run is_store a finds)) (without_shades past) past (none_cut [] past)
+      let alike = reported_alike bound [] [] [] at_start IsSameInDetail (λ f. refl)
+      (λ b has. absurd (in_none b has)) (says_in_detail bound) (without_shades past) past (none_cut [] past)
       (way_of past all) in
       alike.run_adds
       ∙ none_beside alike.of_recording alike.of_run _ alike.one_by_one (sym alike.recording_adds ∙ quiet)

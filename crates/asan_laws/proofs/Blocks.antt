@@ -1,22 +1,15 @@
 -- Where the freed and the held blocks of a history lie.
-use Rattle.std.proofs.Common.{◌≡◌, ℕ, Bool, true, false, List, [], ◌∷◌, subst}
+use Rattle.std.proofs.Common.{ℕ, Bool, true, false, List, [], ◌∷◌, subst}
 use Rattle.std.proofs.Common.{inl, inr}
 use Rattle.std.specs.Prelude.{filter, Contains, sum_by, nat_le, cond}
-use Rattle.std.specs.List.{list_any}
-use Rattle.std.proofs.lemmas.Bool.{and_parts, not-true}
 use Rattle.std.proofs.lemmas.List.Elements.{Contains-append_cases}
 use Rattle.trace_record.specs.declared.event.Event.{Event}
 use Rattle.trace_record.specs.declared.event.Event.TheVariants as event
-use Rattle.heap_book.specs.Spans.{Extent, IsPlaced, span_bytes, meets, may_be_admitted, held_of, starts_at}
+use Rattle.heap_book.specs.Spans.{Extent, IsPlaced, span_bytes, held_of, starts_at}
 use Rattle.asan_check.specs.History.{live, freed, held}
 use Rattle.asan_check.proofs.Steps.{freed_free, freed_malloc}
 use Rattle.asan_check.proofs.Members.{in_none, cons_cases, from_filtered, in_tail, in_head}
 use Rattle.asan_check.proofs.Blocks.{live_placed}
-
--- the span of an admitted block meets none of those beside which it was admitted
-pub admitted_apart : (taken : List Extent) (b : Extent) → may_be_admitted taken b ≡ true
-    → list_any (meets b) taken ≡ false
-admitted_apart taken b ok = not-true _ (and_parts _ _ ok).1
 
 -- what is held was freed
 pub held_was_freed : (bound : ℕ) (xs : List Extent) (x : Extent) → Contains (held_of bound xs) x → Contains xs x

@@ -10,12 +10,12 @@ use Rattle.trace_record.specs.declared.event.Place.{Place}
 use Rattle.trace_record.specs.declared.event.Region.{Region}
 use Rattle.heap_book.specs.Spans.{Extent, IsPlaced, span_bytes, meets, held_of, starts_at}
 use Rattle.heap_book.proofs.Held.{held-within}
+use Rattle.heap_book.proofs.NeverMeet.{may_be_admitted-true}
 use Rattle.asan_check.specs.History.{block_of, live, held, admits}
 use Rattle.asan_check.proofs.Steps.{live_malloc, held_malloc, live_free}
 use Rattle.asan_check.proofs.Members.{none_from}
 use Rattle.asan_check.proofs.Frees as frees
 use Rattle.asan_laws.specs.Recording.{is_of_block}
-use Rattle.asan_laws.proofs.Snapshots.{may_be}
 use Rattle.asan_laws.proofs.SameBlocks.{is_other}
 
 module _ (bound : ℕ) where
@@ -23,7 +23,8 @@ module _ (bound : ℕ) where
       → ((other : Extent) → Contains (live bound recorded ++ held bound recorded) other → meets b other ≡ false)
       → admits bound recorded b ≡ true
   book_admits recorded b placed apart =
-      let taken = live bound recorded ++ held bound recorded in may_be taken b placed (none_from (meets b) taken apart)
+      let taken = live bound recorded ++ held bound recorded in may_be_admitted-true taken b placed
+      (none_from (meets b) taken apart)
 
   pub book_malloc : (recorded : List Event) (r : Region) → admits bound recorded (block_of r) ≡ true
       → (live bound (event.Malloc r ∷ recorded) ≡ live bound recorded ++ block_of r ∷ [])

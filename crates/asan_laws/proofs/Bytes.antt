@@ -1,6 +1,6 @@
 -- What the bytes of live and held blocks are, as long as no poison and no unpoison comes near them.
-use Rattle.std.proofs.Common.{◌≡◌, ℕ, ◌+◌, ◌≤◌, ◌<◌, Bool, true, false, cond, eqb, List, [], ◌∷◌, ◌++◌, refl, sym, ap}
-use Rattle.std.proofs.Common.{subst, ◌∙◌, arith, inl, inr}
+use Rattle.std.proofs.Common.{◌≡◌, ℕ, ◌+◌, ◌*◌, ◌/◌, ◌≤◌, ◌<◌, Bool, true, false, cond, eqb, List, [], ◌∷◌, ◌++◌}
+use Rattle.std.proofs.Common.{refl, sym, ap, subst, ◌∙◌, arith, inl, inr}
 use Rattle.std.specs.Prelude.{not, filter, Contains}
 use Rattle.std.specs.List.{IsDistinct, list_any}
 use Rattle.std.proofs.lemmas.Bool.{both_ways, not-true, and_right, false_from_ne_true, eqb-true, eq-eqb}
@@ -14,16 +14,16 @@ use Rattle.trace_record.specs.Shades.{shade_size}
 use Rattle.shadow_map.specs.States.{Addressable, HeapRedzone, Mark, Block, lies_in, state_of}
 use Rattle.heap_book.specs.Spans.{Extent, span_from, span_to, meets, starts_at}
 use Rattle.asan_units.specs.Units.{round_up}
-use Rattle.heap_book.proofs.NeverMeet.{meets-flip}
+use Rattle.heap_book.proofs.NeverMeet.{meets-flip, unmet-admitted}
 use Rattle.asan_check.specs.Codes.{Freed}
 use Rattle.asan_check.specs.History.{block_of, live, held, admits, marks, with_marks, freed_mark, released_mark}
 use Rattle.asan_check.specs.History.{released_from, own_marks}
-use Rattle.asan_laws.specs.Laws.{asks_for, since_malloc, since_free, NoPoisonShares, NoUnpoisonShares}
+use Rattle.asan_laws.specs.Laws.{asks_for, since_malloc, since_free, SharesGranule, NoPoisonShares}
+use Rattle.asan_laws.specs.Laws.{NoUnpoisonShares}
 use Rattle.asan_check.proofs.Steps.{eqb_flips, spans_apart, held_malloc}
 use Rattle.asan_check.proofs.Members.{in_none, in_head, in_tail, from_filtered, passes_any, none_passes, apart_across}
 use Rattle.asan_check.proofs.Members.{apart_left, apart_right, starts_once, meets_same}
 use Rattle.asan_laws.proofs.Members.{apart_beside}
-use Rattle.asan_laws.proofs.Blocks.{admitted_apart}
 use Rattle.asan_laws.proofs.Frames.{IsInSpan, block_leaves, freed_leaves, released_leaves, marked_leaves}
 use Rattle.asan_laws.proofs.Frames.{poison_leaves, unpoison_leaves, unpoison_keeps}
 use Rattle.asan_laws.proofs.Histories.{live_malloc_cases, live_free_cases, held_free_cases}
@@ -43,7 +43,7 @@ beside_malloc bound past b r byte has in_span = go (admits bound past (block_of 
     go true is =
         let taken = live bound past ++ held bound past in
         let apart = meets-flip b (block_of r) ∙ none_passes (meets (block_of r)) taken b
-        (admitted_apart taken (block_of r) is) has in
+        (unmet-admitted taken (block_of r) is) has in
         block_leaves b (block_of r) byte apart in_span (marks bound past)
 
 -- a free, where the block meets none of those that it frees and releases
@@ -116,6 +116,30 @@ beside_held bound past b p byte has stays in_span =
 abbrev pub NeitherShares : List Event → ℕ → ℕ → Type 0
 NeitherShares events from to = NoPoisonShares events from to × NoUnpoisonShares events from to
 
+-- what shares a granule with the granule of a byte shares it with the byte
+in_its_granule : (at from size : ℕ) → SharesGranule from size (8 * (at / 8)) (8 * (at / 8) + 8)
+    → SharesGranule from size at (at + 1)
+in_its_granule at from size shares =
+    let low = shares.in_range.0 in
+    let high = shares.in_range.1 in
+    let same = shares.one_granule in
+    record {
+      own = shares.own;
+      other = at;
+      in_region = shares.in_region;
+      in_range = (omega arith, omega arith);
+      one_granule = omega arith;
+    }
+
+pub no_poison_there : (events : List Event) (at : ℕ) → NoPoisonShares events at (at + 1)
+    → NoPoisonShares events (8 * (at / 8)) (8 * (at / 8) + 8)
+no_poison_there events at clear s has shares = clear s has (in_its_granule at s.at (shade_size s) shares)
+
+pub neither_there : (events : List Event) (at : ℕ) → NoPoisonShares events at (at + 1)
+    → NoUnpoisonShares events at (at + 1) → NeitherShares events (8 * (at / 8)) (8 * (at / 8) + 8)
+neither_there events at clear clear' =
+    (no_poison_there events at clear, λ r has shares. clear' r has (in_its_granule at r.at r.size shares))
+
 -- the marks that an event is itself leave a byte that no poison and no unpoison comes near
 pub own_marks_leave : (e : Event) (since : List Event) (byte from to : ℕ) (ms : List Mark) → from ≤ byte → byte < to
     → NeitherShares (e ∷ since) from to → state_of (own_marks e ++ ms) byte ≡ state_of ms byte
@@ -156,22 +180,22 @@ laid : (bound : ℕ) (past : List Event) (r : Region) (b : Extent) → block_of 
 laid bound past r b asked ok =
     rw (ap (admits bound past) asked ∙ ok) (ap (λ x. Block x.at x.size ∷ marks bound past) asked)
 
-pub live_inside : (bound : ℕ) (past : List Event) (b : Extent) (byte : ℕ) → Contains (live bound past) b → b.at ≤ byte
-    → byte < b.at + b.size →
-    NoPoisonShares (since_malloc bound past b) b.at (b.at + b.size) → state_of (marks bound past) byte ≡ Addressable
-live_inside bound [] b byte has above below clear = absurd (in_none b has)
-live_inside bound (event.Poison s ∷ past) b byte has above below clear =
-    poison_leaves s.at (shade_size s) b.at (b.at + b.size) byte (clear s (in_head _ _)) above below _ (marks bound past)
-    ∙ live_inside bound past b byte has above below (NoPoisonShares-tail _ _ _ _ clear)
-live_inside bound (event.Unpoison r ∷ past) b byte has above below clear =
-    unpoison_keeps r byte (marks bound past) (live_inside bound past b byte has above below
+pub live_inside : (bound : ℕ) (past : List Event) (b : Extent) (byte from to : ℕ) → Contains (live bound past) b
+    → b.at ≤ byte → byte < b.at + b.size → (from ≤ byte) × (byte < to) →
+    NoPoisonShares (since_malloc bound past b) from to → state_of (marks bound past) byte ≡ Addressable
+live_inside bound [] b byte from to has above below near clear = absurd (in_none b has)
+live_inside bound (event.Poison s ∷ past) b byte from to has above below near clear =
+    poison_leaves s.at (shade_size s) from to byte (clear s (in_head _ _)) near.0 near.1 _ (marks bound past)
+    ∙ live_inside bound past b byte from to has above below near (NoPoisonShares-tail _ _ _ _ clear)
+live_inside bound (event.Unpoison r ∷ past) b byte from to has above below near clear =
+    unpoison_keeps r byte (marks bound past) (live_inside bound past b byte from to has above below near
     (NoPoisonShares-tail _ _ _ _ clear))
-live_inside bound (event.Free p ∷ past) b byte has above below clear =
+live_inside bound (event.Free p ∷ past) b byte from to has above below near clear =
     let parts = live_free_cases bound past b p has in
     let round = rounds_up b in
     beside_live bound past b p byte parts.0 parts.1 (bytes_in_span b byte above (omega arith))
-    ∙ live_inside bound past b byte parts.0 above below (NoPoisonShares-tail _ _ _ _ clear)
-live_inside bound (event.Malloc r ∷ past) b byte has above below clear =
+    ∙ live_inside bound past b byte from to parts.0 above below near (NoPoisonShares-tail _ _ _ _ clear)
+live_inside bound (event.Malloc r ∷ past) b byte from to has above below near clear =
     let round = rounds_up b in
     let in_span = bytes_in_span b byte above (omega arith) in
     elim (live_malloc_cases bound past b r has) [
@@ -181,11 +205,11 @@ live_inside bound (event.Malloc r ∷ past) b byte has above below clear =
           ∙ rw inside refl
       | inr (old, more) ↦
           beside_malloc bound past b r byte (Contains-append_left (live bound past) (held bound past) b old) in_span
-          ∙ live_inside bound past b byte old above below
+          ∙ live_inside bound past b byte from to old above below near
           (NoPoisonShares-tail (event.Malloc r) _ _ _ (rw more at clear))
     ]
-live_inside bound (e ∷ past) b byte has above below clear =
-    live_inside bound past b byte has above below (NoPoisonShares-tail _ _ _ _ clear)
+live_inside bound (e ∷ past) b byte from to has above below near clear =
+    live_inside bound past b byte from to has above below near (NoPoisonShares-tail _ _ _ _ clear)
 
 -- ---- a byte of a live block's span, where no poison and no unpoison came near a range around it
 
@@ -265,7 +289,7 @@ held_not_admitted : (bound : ℕ) (past : List Event) (b : Extent) → Contains 
 held_not_admitted bound past b has =
     let taken = live bound past ++ held bound past in
     false_from_ne_true _ (λ ok. both_ways (meets b b)
-    (none_passes (meets b) taken b (admitted_apart taken b ok)
+    (none_passes (meets b) taken b (unmet-admitted taken b ok)
     (Contains-append_right (live bound past) (held bound past) b has))
     (meets_same b b refl))
 

@@ -1,6 +1,6 @@
 -- Worked values of the words of the laws, computed by the definitions.
 use Rattle.std.proofs.Common.{◌≡◌, true, false, [], ◌∷◌, refl, arith}
-use Rattle.std.specs.Prelude.{◌==◌, List, reverse}
+use Rattle.std.specs.Prelude.{List, reverse}
 use Rattle.std.proofs.lemmas.Bool.Decides.{nat_tests}
 use Rattle.std.proofs.lemmas.List.Sorted.{IsPermutation-refl}
 use Rattle.trace_record.specs.declared.event.Event.{Event}
@@ -9,9 +9,9 @@ use Rattle.shadow_map.specs.States.{Block, lies_in}
 use Rattle.asan_check.specs.declared.report.Class.TheVariants as class
 use Rattle.asan_check.specs.declared.report.Fault.TheVariants as fault
 use Rattle.asan_laws.specs.Laws.{since_malloc, since_free, IsPoisonedSince}
-use Rattle.asan_laws.specs.Thinning.{faults_of, renumbered, thinned, thinned_events}
+use Rattle.asan_laws.specs.Thinning.{faults_of, LeavesOut, ends, keeps, leaves_out}
 use Rattle.asan_laws.specs.Snapshots.{lays_none, lays_held}
-use Rattle.asan_laws.specs.Recording.{Records, shadow_bytes, numbers_in_both, IsSnapshotBut}
+use Rattle.asan_laws.specs.Recording.{Records, shadow_bytes, addressable_bytes, numbers_in_both, IsSnapshotBut}
 use Rattle.asan_laws.specs.Recording as recording
 use Rattle.asan_laws.specs.LeanRecording.{RecordsLeanly, lean_numbers, RecordsInSegments, shadow_after}
 use Rattle.asan_laws.specs.LeanRecording as lean
@@ -63,30 +63,12 @@ fault_of_the_store :
     faults_of usual bad_store ≡ fault.Access true 4 0x1004 0x1005 class.HeapBufferOverflow 5 ∷ []
 fault_of_the_store = refl
 
--- where the bad store is left out its fault is lost, so what is left out has to be good
-fault_that_is_lost : faults_of usual (thinned (λ number. true) bad_store) ≡ []
+-- where it is left out its fault is lost, so a recorder leaves out good ones alone
+without_the_store : LeavesOut ((malloc 0x1000 5 refl) ∷ []) bad_store
+without_the_store = leaves_out (store 0x1004 4 refl) _ _ refl (keeps (malloc 0x1000 5 refl) _ _ ends)
+
+fault_that_is_lost : faults_of usual ((malloc 0x1000 5 refl) ∷ []) ≡ []
 fault_that_is_lost = refl
-
--- only loads and stores are left out, so the second free is still reported
-frees_stay :
-    faults_of usual (thinned (λ number. true) ((free 0x1000 refl) ∷ (load 0x1000 1 refl) ∷ (free 0x1000 refl)
-    ∷ (malloc 0x1000 8 refl) ∷ []))
-    ≡ fault.DoubleFree 0x1000 ∷ []
-frees_stay = refl
-
--- an event that is the second of what is left, where the load before it is left out, is the third of the whole; the
--- fault plays no part
-number_after_a_load :
-    renumbered (λ number. number == 2) ((store 0x1004 4 refl) ∷ (load 0x1000 1 refl)
-    ∷ (malloc 0x1000 5 refl) ∷ []) (record { number = 2; fault = fault.BadFree 0 })
-    ≡ record { number = 3; fault = fault.BadFree 0 }
-number_after_a_load = refl
-
--- of events in their order the numbers are counted from the oldest: the first load is left out
-first_load_is_left_out :
-    thinned_events (λ number. number == 2) ((malloc 0x1000 5 refl) ∷ (load 0x1000 1 refl) ∷ (load 0x1001 1 refl) ∷ [])
-    ≡ (malloc 0x1000 5 refl) ∷ (load 0x1001 1 refl) ∷ []
-first_load_is_left_out = refl
 
 -- ---- a recording and its run
 
@@ -99,16 +81,17 @@ whole =
 abbrev written : List Event
 written = (store 0x1004 4 refl) ∷ (load 0 1 refl) ∷ (malloc 0x1000 5 refl) ∷ []
 
-written_of_whole : Records usual shadow_bytes [] [] written whole
+written_of_whole : Records usual [] [] written whole
 written_of_whole =
-    recording.access true (the_access 0x1004 4 refl) _ _ (record { here = refl; class_there = λ bad. refl })
+    recording.access shadow_bytes true (the_access 0x1004 4 refl) _ _
+    (record { here = refl; class_there = λ bad. refl })
     (recording.says_nothing (load 0 1 refl) _ _ refl refl
     (recording.leaves_out_shade (poison_of kind.Stack 0x2000 32 refl) _ _ refl
     (recording.leaves_out_access (load 0x1000 1 refl) _ _ refl refl
     (recording.block (malloc 0x1000 5 refl) _ _ refl recording.begins))))
 
 -- the malloc is the first event of both, and the store the third of the one and the fourth of the other
-numbers_of_written : numbers_in_both written_of_whole ≡ (1, 1) ∷ (3, 4) ∷ []
+numbers_of_written : numbers_in_both written_of_whole ≡ (1, 1, shadow_bytes) ∷ (3, 4, shadow_bytes) ∷ []
 unfolding written_of_whole
 numbers_of_written = refl
 
@@ -171,9 +154,9 @@ lean_run =
 abbrev lean_written : List Event
 lean_written = (store 0x1004 1 refl) ∷ (free 0x1000 refl) ∷ (malloc 0x1000 5 refl) ∷ []
 
-lean_written_of_run : RecordsLeanly usual shadow_bytes [] [] lean_written lean_run
+lean_written_of_run : RecordsLeanly usual [] [] lean_written lean_run
 lean_written_of_run =
-    lean.access true (the_access 0x1004 1 refl) _ _ (record { here = refl; class_there = λ bad. refl })
+    lean.access shadow_bytes true (the_access 0x1004 1 refl) _ _ (record { here = refl; class_there = λ bad. refl })
     (lean.states_block (free 0x1000 refl) _ _ refl
     (lean.states_block (malloc 0x1000 5 refl) _ _ refl
     (lean.leaves_out_access (load 0x2000 1 refl) _ _ refl refl
@@ -182,13 +165,13 @@ lean_written_of_run =
     (lean.leaves_out_block (malloc 0x1000 5 refl) _ _ refl refl lean.begins))))))
 
 -- the store is the third event of the one and the fifth of the other
-numbers_of_lean_written : lean_numbers lean_written_of_run ≡ (3, 5) ∷ []
+numbers_of_lean_written : lean_numbers lean_written_of_run ≡ (3, 5, shadow_bytes) ∷ []
 unfolding lean_written_of_run
 numbers_of_lean_written = refl
 
 -- a double free: the held block is stated, and then the second free is recorded
 lean_double_free :
-    RecordsLeanly usual shadow_bytes [] []
+    RecordsLeanly usual [] []
     ((free 0x1000 refl) ∷ (free 0x1000 refl) ∷ (malloc 0x1000 8 refl) ∷ [])
     (Does (free 0x1000 refl) ∷ Releases 0x2000 ∷ Does (free 0x2000 refl) ∷ Does (free 0x1000 refl)
     ∷ Does (malloc 0x2000 8 refl) ∷ Does (malloc 0x1000 8 refl) ∷ [])
@@ -260,17 +243,17 @@ in_the_way = refl
 
 -- so a new segment begins, with a block of no bytes whose redzone has the granule
 in_two_segments :
-    RecordsInSegments 80 shadow_bytes [] (used_after_free ∷ ((load 0x1000 1 refl) ∷ (malloc 0x1000 0 refl) ∷ []) ∷ [])
+    RecordsInSegments 80 [] (used_after_free ∷ ((load 0x1000 1 refl) ∷ (malloc 0x1000 0 refl) ∷ []) ∷ [])
     used_after_release
 in_two_segments =
     lean.one_more _ [] _ _ _ refl
     (lean.one_more _ [] _ _ _ refl lean.no_segment
-    (lean.access false (the_access 0x1000 1 refl) _ _ (record { here = refl; class_there = λ bad. refl })
+    (lean.access shadow_bytes false (the_access 0x1000 1 refl) _ _ (record { here = refl; class_there = λ bad. refl })
     (lean.states_block (free 0x1000 refl) _ _ refl
     (lean.leaves_out_block (free 0x1000 refl) _ _ refl refl
     (lean.states_block (malloc 0x1000 8 refl) _ _ refl
     (lean.leaves_out_block (malloc 0x1000 8 refl) _ _ refl refl lean.begins))))))
-    (lean.access false (the_access 0x1000 1 refl) _ _ (record { here = refl; class_there = λ bad. refl })
+    (lean.access shadow_bytes false (the_access 0x1000 1 refl) _ _ (record { here = refl; class_there = λ bad. refl })
     (lean.states_block (malloc 0x1000 0 refl) _ _ refl
     (lean.releases 0x1000 _ _
     (lean.leaves_out_block (free 0x2000 refl) _ _ refl refl
@@ -307,3 +290,33 @@ class_of_what_was_not_stated :
     faults_of usual ((store 0x1004 4 refl) ∷ (poison 0x1005 3 refl) ∷ [])
     ≡ fault.Access true 4 0x1004 0x1005 class.UnknownCrash 5 ∷ []
 class_of_what_was_not_stated = refl
+
+-- a recording of two accesses of which the first finds only as many addressable bytes, since the block was not stated
+-- yet: in it the class of that one is unknown, and that of the other one is the run's
+in_two_details :
+    RecordsLeanly usual [] []
+    ((load 0x1008 1 refl) ∷ (malloc 0x1000 5 refl) ∷ (store 0x1004 4 refl) ∷ (poison 0x1005 3 refl) ∷ [])
+    (Does (load 0x1008 1 refl) ∷ Does (store 0x1004 4 refl) ∷ Does (malloc 0x1000 5 refl) ∷ [])
+in_two_details =
+    lean.access shadow_bytes false (the_access 0x1008 1 refl) _ _ (record { here = refl; class_there = λ bad. refl })
+    (lean.states_block (malloc 0x1000 5 refl) _ _ refl
+    (lean.access addressable_bytes true (the_access 0x1004 4 refl) _ _ refl
+    (lean.states (poison 0x1005 3 refl) _ _ refl
+    (lean.leaves_out_block (malloc 0x1000 5 refl) _ _ refl refl lean.begins))))
+
+numbers_in_two_details : lean_numbers in_two_details ≡ (2, 2, addressable_bytes) ∷ (4, 3, shadow_bytes) ∷ []
+unfolding in_two_details
+numbers_in_two_details = refl
+
+faults_in_two_details :
+    faults_of usual
+    ((load 0x1008 1 refl) ∷ (malloc 0x1000 5 refl) ∷ (store 0x1004 4 refl) ∷ (poison 0x1005 3 refl) ∷ [])
+    ≡ fault.Access true 4 0x1004 0x1005 class.UnknownCrash 5
+    ∷ fault.Access false 1 0x1008 0x1008 class.HeapBufferOverflow 0xfa ∷ []
+faults_in_two_details = refl
+
+faults_in_their_run :
+    faults_in (Does (load 0x1008 1 refl) ∷ Does (store 0x1004 4 refl) ∷ Does (malloc 0x1000 5 refl) ∷ [])
+    ≡ fault.Access true 4 0x1004 0x1005 class.HeapBufferOverflow 5
+    ∷ fault.Access false 1 0x1008 0x1008 class.HeapBufferOverflow 0xfa ∷ []
+faults_in_their_run = refl

@@ -1,6 +1,6 @@
 -- What a run says of a block that it holds, and that one that releases nothing holds each block that it freed.
-use Rattle.std.proofs.Common.{◌≡◌, ℕ, ◌+◌, ◌*◌, ◌/◌, ◌≤◌, ◌<◌, Bool, true, false, eqb, List, [], ◌∷◌, ◌++◌, Some}
-use Rattle.std.proofs.Common.{Option, refl, sym, ap, ◌∙◌, arith}
+use Rattle.std.proofs.Common.{◌≡◌, ℕ, ◌+◌, ◌*◌, ◌/◌, ◌≤◌, Bool, true, false, eqb, List, [], ◌∷◌, ◌++◌, Some}
+use Rattle.std.proofs.Common.{refl, sym, ◌∙◌, arith}
 use Rattle.std.specs.Prelude.{filter, Contains}
 use Rattle.std.specs.List.{list_any}
 use Rattle.std.proofs.lemmas.Bool.{both_ways, eqb-true, eq-eqb, false_from_ne_true}
@@ -11,13 +11,10 @@ use Rattle.trace_record.specs.declared.event.Event.TheVariants as event
 use Rattle.trace_record.specs.declared.event.Access.{Access}
 use Rattle.trace_record.specs.declared.event.Place.{Place}
 use Rattle.trace_record.specs.declared.event.Region.{Region}
-use Rattle.shadow_map.specs.States.{is_addressable, code_of, state_of}
+use Rattle.shadow_map.specs.States.{code_of, state_of}
 use Rattle.heap_book.specs.Spans.{Extent, meets, starts_at}
 use Rattle.heap_book.proofs.NeverMeet.{may_be_admitted-met}
-use Rattle.asan_units.specs.Units.{round_up}
-use Rattle.asan_check.specs.declared.report.Class.{Class}
 use Rattle.asan_check.specs.declared.report.Class.TheVariants as class
-use Rattle.asan_check.specs.declared.report.Fault.{Fault}
 use Rattle.asan_check.specs.declared.report.Fault.TheVariants as fault
 use Rattle.asan_check.specs.Codes.{Freed}
 use Rattle.asan_check.specs.History.{block_of}
@@ -26,7 +23,8 @@ use Rattle.asan_check.proofs.Members.{passes_any, apart_across, meets_same}
 use Rattle.asan_laws.specs.Laws.{NoPoisonShares, NoUnpoisonShares, StartsWithin, access_event}
 use Rattle.asan_laws.specs.Runs.{Step, live_in, held_in, admits_in, marks_in, fault_in, since_free_in}
 use Rattle.asan_laws.specs.Runs.{without_release}
-use Rattle.asan_laws.proofs.Accesses.{class_of_its_code, first_fault, own_class, own_shadow}
+use Rattle.asan_laws.proofs.Accesses.{freed_fault}
+use Rattle.asan_laws.proofs.Bytes.{neither_there}
 use Rattle.asan_laws.proofs.Members.{any_passes, filtered}
 use Rattle.asan_laws.proofs.RunBlocks.{held_placed_in, apart_in}
 use Rattle.asan_laws.proofs.RunBytes.{held_bytes_in}
@@ -68,34 +66,18 @@ by_states : (run : List Step) (is_store : Bool) (a : Access)
 by_states run false a = refl
 by_states run true a = refl
 
-some_fault : (is_store : Bool) (a : Access) (c d : Class) (v w : ℕ) → c ≡ d → v ≡ w →
-    (let f : Option Fault = Some (fault.Access is_store a.width a.at a.at c v) in f)
-    ≡ Some (fault.Access is_store a.width a.at a.at d w)
-some_fault is_store a c d v w p q = rw (p, q) refl
-
 pub used_after_free : (run : List Step) (b : Extent) (is_store : Bool) (a : Access) → Contains (held_in run) b
-    → StartsWithin b a → NoPoisonShares (since_free_in run b) b.at (b.at + round_up b.size)
-    → NoUnpoisonShares (since_free_in run b) b.at (b.at + round_up b.size) →
+    → StartsWithin b a → NoPoisonShares (since_free_in run b) a.at (a.at + 1)
+    → NoUnpoisonShares (since_free_in run b) a.at (a.at + 1) →
     fault_in run (access_event is_store a)
     ≡ Some (fault.Access is_store a.width a.at a.at class.HeapUseAfterFree (code_of Freed))
 used_after_free run b is_store a has start clear clear' =
-    let states = state_of (marks_in run) in
     let from = start.0 in
     let to = start.1 in
-    let placed = held_placed_in run b has in
-    let aligned = placed.0 in
-    let each : (byte : ℕ) → b.at ≤ byte → byte < b.at + round_up b.size → states byte ≡ Freed =
-    λ byte above below.
-    held_bytes_in run b byte b.at (b.at + round_up b.size) has above below above below (clear, clear') in
-    let bad = ap is_addressable (each a.at from to) in
-    let base = each (8 * (a.at / 8)) (omega arith) (omega arith) in
-    let closed = ap is_addressable base in
-    let none : (i : ℕ) → i < 8 → is_addressable (states (8 * (a.at / 8) + i)) ≡ false =
-    λ i lt. ap is_addressable (each (8 * (a.at / 8) + i) (omega arith) (omega arith)) in
-    by_states run is_store a
-    ∙ first_fault states is_store a bad
-    ∙ some_fault is_store a _ _ _ _ (own_class states a.at none ∙ ap class_of_its_code base)
-    (own_shadow states (a.at / 8) closed ∙ ap code_of base)
+    let aligned = (held_placed_in run b has).0 in
+    by_states run is_store a ∙ freed_fault (state_of (marks_in run)) is_store a (λ byte above below.
+    held_bytes_in run b byte (8 * (a.at / 8)) (8 * (a.at / 8) + 8) has (omega arith) (omega arith) above below
+    (neither_there (since_free_in run b) a.at clear clear'))
 
 -- ---- a run that releases nothing
 

@@ -11,6 +11,7 @@ use Rattle.trace_record.specs.declared.event.Event.TheVariants as event
 use Rattle.trace_record.specs.declared.event.Place.{Place}
 use Rattle.trace_record.specs.declared.event.Region.{Region}
 use Rattle.heap_book.specs.Spans.{Extent, meets, starts_at}
+use Rattle.heap_book.proofs.NeverMeet.{unmet-admitted}
 use Rattle.asan_check.specs.History.{block_of, live, held, admits}
 use Rattle.asan_laws.specs.Laws.{asks_for, since_malloc, since_free, IsLiveSince, IsHeldSince}
 use Rattle.asan_check.proofs.Steps.{live_free, live_malloc, held_free, held_malloc, spans_apart}
@@ -18,7 +19,7 @@ use Rattle.asan_check.proofs.Members.{in_none, in_head, in_tail, cons_cases, fro
 use Rattle.asan_laws.proofs.Members.{filtered}
 use Rattle.asan_check.proofs.Members.{none_passes, meets_same, apart_across}
 use Rattle.asan_laws.proofs.Members.{any_passes}
-use Rattle.asan_laws.proofs.Blocks.{admitted_apart, held_was_freed}
+use Rattle.asan_laws.proofs.Blocks.{held_was_freed}
 
 -- ---- a live block and one more event
 
@@ -28,7 +29,7 @@ pub live_not_admitted : (bound : ℕ) (past : List Event) (b : Extent) → Conta
 live_not_admitted bound past b has =
     let taken = live bound past ++ held bound past in
     false_from_ne_true _ (λ ok. both_ways (meets b b)
-    (none_passes (meets b) taken b (admitted_apart taken b ok)
+    (none_passes (meets b) taken b (unmet-admitted taken b ok)
     (Contains-append_left (live bound past) (held bound past) b has))
     (meets_same b b refl))
 

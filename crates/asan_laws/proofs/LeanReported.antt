@@ -17,7 +17,7 @@ use Rattle.asan_check.specs.History.{held}
 use Rattle.asan_check.specs.Verdicts.{fault_of, verdict, verdicts_of}
 use Rattle.asan_laws.specs.Laws.{access_event}
 use Rattle.asan_laws.specs.Snapshots.{is_shade}
-use Rattle.asan_laws.specs.Recording.{Detail}
+use Rattle.asan_laws.specs.Recording.{Detail, shadow_bytes}
 use Rattle.asan_laws.specs.Runs.{Step, Does, events_of, live_in, held_in, fault_in, verdict_in, verdicts_in}
 use Rattle.asan_laws.specs.LeanRecording.{HaveSameStart, FindsItsBlock, FindsInRun, MayBeStated, RecordsLeanly}
 use Rattle.asan_laws.specs.LeanRecording.{lean_numbers, AreReportedInRun}
@@ -72,17 +72,17 @@ shade_is_good_in run e is = absurd (false≢true is)
 
 -- ---- one more event
 
-module _ (bound : ℕ) (Same : Fault → Fault → Type 0) (first : List Event) (past : List Step) (recorded : List Event)
-    (run : List Step) (numbers : List (ℕ × ℕ))
+module _ (bound : ℕ) (Same : Detail → Fault → Fault → Type 0) (first : List Event) (past : List Step)
+    (recorded : List Event) (run : List Step) (numbers : List (ℕ × ℕ × Detail))
     (alike : AreReportedInRun bound numbers Same first past recorded run) where
-  in_both : (e : Event) → SayAlike Same (fault_of bound recorded e) (fault_in run e) →
-      AreReportedInRun bound (numbers ++ (length recorded + 1, length (events_of run) + 1) ∷ []) Same first past
+  in_both : (e : Event) (detail : Detail) → SayAlike (Same detail) (fault_of bound recorded e) (fault_in run e) →
+      AreReportedInRun bound (numbers ++ (length recorded + 1, length (events_of run) + 1, detail) ∷ []) Same first past
       (e ∷ recorded) (Does e ∷ run)
-  in_both e says =
-      let last : ℕ × ℕ = (length recorded + 1, length (events_of run) + 1) in
+  in_both e detail says =
+      let last : ℕ × ℕ × Detail = (length recorded + 1, length (events_of run) + 1, detail) in
       added_to_both Same (verdicts_of bound first) (verdicts_of bound recorded) (verdicts_in past) (verdicts_in run)
       numbers alike last (option_to_list (verdict bound recorded e)) (option_to_list (verdict_in run e))
-      (both_say Same (numbers ++ last ∷ []) (length recorded + 1) (length (events_of run) + 1)
+      (both_say Same (numbers ++ last ∷ []) (length recorded + 1) (length (events_of run) + 1) detail
       (Contains-push numbers last) (fault_of bound recorded e) (fault_in run e) says)
 
   in_run : (e : Event) → fault_in run e ≡ None
@@ -99,17 +99,18 @@ module _ (bound : ℕ) (Same : Fault → Fault → Type 0) (first : List Event) 
 
 -- ---- the whole
 
--- a load or a store that finds the same has the same fault in both, or none in either
-abbrev pub SaysAlike : ℕ → Detail → (Fault → Fault → Type 0) → Type 0
-SaysAlike bound detail Same =
-    (recorded : List Event) (run : List Step) (is_store : Bool) (a : Access) → FindsInRun bound detail recorded run a →
-    SayAlike Same (fault_of bound recorded (access_event is_store a)) (fault_in run (access_event is_store a))
+-- a load or a store that finds this much has the same fault in both, or none in either
+abbrev pub SaysAlike : ℕ → (Detail → Fault → Fault → Type 0) → Type 0
+SaysAlike bound Same =
+    (detail : Detail) (recorded : List Event) (run : List Step) (is_store : Bool) (a : Access)
+    → FindsInRun bound detail recorded run a →
+    SayAlike (Same detail) (fault_of bound recorded (access_event is_store a)) (fault_in run (access_event is_store a))
 
 -- if that is so of the faults that count as the same
-module _ (bound : ℕ) (detail : Detail) (first : List Event) (past : List Step) (Same : Fault → Fault → Type 0)
-    (self : (f : Fault) → Same f f) (says : SaysAlike bound detail Same) where
+module _ (bound : ℕ) (first : List Event) (past : List Step) (Same : Detail → Fault → Fault → Type 0)
+    (self : (f : Fault) → Same shadow_bytes f f) (says : SaysAlike bound Same) where
   pub lean_alike : (recorded : List Event) (run : List Step)
-      (way : RecordsLeanly bound detail first past recorded run)
+      (way : RecordsLeanly bound first past recorded run)
       → AreReportedInRun bound (lean_numbers way) Same first past recorded run
   lean_alike recorded run begins = record {
     of_recording = [];
@@ -119,11 +120,11 @@ module _ (bound : ℕ) (detail : Detail) (first : List Event) (past : List Step)
     one_by_one = tt;
   }
   lean_alike recorded run (block e t f finds way) =
-      in_both bound Same first past t f (lean_numbers way) (lean_alike t f way) e
-      (say_the_same Same self _ _ (block_same bound t f e finds))
-  lean_alike recorded run (access is_store a t f finds way) =
-      in_both bound Same first past t f (lean_numbers way) (lean_alike t f way) (access_event is_store a)
-      (says t f is_store a finds)
+      in_both bound Same first past t f (lean_numbers way) (lean_alike t f way) e shadow_bytes
+      (say_the_same (Same shadow_bytes) self _ _ (block_same bound t f e finds))
+  lean_alike recorded run (access detail is_store a t f finds way) =
+      in_both bound Same first past t f (lean_numbers way) (lean_alike t f way) (access_event is_store a) detail
+      (says detail t f is_store a finds)
   lean_alike recorded run (leaves_out_block e t f is good way) =
       in_run bound Same first past t f (lean_numbers way) (lean_alike t f way) e good
   lean_alike recorded run (states_block e t f may way) =

@@ -9,11 +9,10 @@ mod Poisons
 mod Order
 mod Marks
 mod Thinned
-mod Repeated
 mod Alike
 mod Snapshots
-mod Ways
 mod Finding
+mod Said
 mod SameBlocks
 mod Reported
 mod Numbers

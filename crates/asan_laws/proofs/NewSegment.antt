@@ -1,6 +1,6 @@
 -- In a new segment each load, store, malloc and free can be recorded: what it looks at can be stated.
 use Rattle.std.proofs.Common.{◌≡◌, ℕ, zero, suc, ◌+◌, ◌-◌, ◌*◌, ◌/◌, ◌%◌, ◌^◌, ◌<◌, ◌≤◌, true, false, cond, leb, ltb}
-use Rattle.std.proofs.Common.{Bool, List, [], ◌∷◌, ◌++◌, refl, sym, ap, subst, ◌∙◌, arith, inl, inr}
+use Rattle.std.proofs.Common.{Bool, List, [], ◌∷◌, ◌++◌, length, refl, sym, ap, subst, ◌∙◌, arith, inl, inr}
 use Rattle.std.specs.Prelude.{min, not, filter, Contains, IsTrue}
 use Rattle.std.specs.List.{IsDistinct, list_any}
 use Rattle.std.proofs.lemmas.Bool.{cases_Bool, cases_lt, and_right, false≢true, eq-eqb}
@@ -24,6 +24,7 @@ use Rattle.shadow_map.proofs.Ends.{lift_past_the_end}
 use Rattle.shadow_map.proofs.Queries.{deciding_shown}
 use Rattle.heap_book.specs.Spans.{Extent, IsPlaced, span_bytes, meets, starts_at}
 use Rattle.heap_book.proofs.Held.{held-within}
+use Rattle.heap_book.proofs.NeverMeet.{may_be_admitted-true}
 use Rattle.asan_units.specs.Units.{is_width}
 use Rattle.asan_check.specs.Codes.{Freed, code_of_kind}
 use Rattle.asan_check.specs.History.{block_of, live, held, admits}
@@ -31,21 +32,22 @@ use Rattle.asan_check.proofs.Frees as frees
 use Rattle.asan_check.proofs.Members.{in_none, in_head, cons_cases, passes_any, from_filtered}
 use Rattle.asan_check.proofs.Steps.{live_malloc, none_apart}
 use Rattle.asan_laws.specs.Laws.{access_event}
-use Rattle.asan_laws.specs.Recording.{shadow_bytes}
+use Rattle.asan_laws.specs.Recording.{Detail, shadow_bytes, FindAllBytes}
 use Rattle.asan_laws.specs.Snapshots.{lays_none, lays_live, lays_held, is_shade}
 use Rattle.asan_laws.specs.LeanRecording.{RecordsLeanly, begins, block, access, states_block, states, shadow_after}
-use Rattle.asan_laws.specs.LeanRecording.{HaveSameStart, EachHeldFits}
-use Rattle.asan_laws.specs.Runs.{Step, Does, Releases, live_in, held_in, admits_in, marks_in, shadow_in}
+use Rattle.asan_laws.specs.LeanRecording.{lean_numbers, HaveSameStart, EachHeldFits}
+use Rattle.asan_laws.specs.Runs.{Step, Does, Releases, events_of, live_in, held_in, admits_in, marks_in, shadow_in}
 use Rattle.asan_laws.proofs.Known.{IsGiven, given_count, given_redzone, given_poison, given_freed, given}
 use Rattle.asan_laws.proofs.Members.{any_passes}
 use Rattle.asan_laws.proofs.RunBlocks.{live_malloc_in, live_refused_in, live_placed_in, held_placed_in, are_marks_in}
-use Rattle.asan_laws.proofs.Snapshots.{stands, may_be}
+use Rattle.asan_laws.proofs.Snapshots.{stands}
 use Rattle.asan_laws.proofs.Shown.{shadow_malloc, shadow_free, shadow_shade, poison_whole, poison_part, unpoison_whole}
 
 -- some events that may be put in since nothing was recorded, after which a granule has a shadow byte
 record CanBeStated (bound : ℕ) (run : List Step) (granule shadow : ℕ) : Type 0 where
   stated : List Event
-  way : RecordsLeanly bound shadow_bytes [] run stated run
+  way : RecordsLeanly bound [] run stated run
+  none : lean_numbers way ≡ []
   is : shadow_after bound stated granule ≡ shadow
 
 -- ---- regions and shades of a granule
@@ -134,7 +136,7 @@ redzone_number at granule s =
 
 module _ (bound : ℕ) (run : List Step) (granule : ℕ) (within : granule < 2 ^ 44) where
   by_nothing : CanBeStated bound run granule 0
-  by_nothing = record { stated = []; way = begins; is = refl }
+  by_nothing = record { stated = []; way = begins; none = refl; is = refl }
 
   by_tail : (count : ℕ) → 0 < count → count < 8 → CanBeStated bound run granule count
   by_tail count some less =
@@ -143,6 +145,7 @@ module _ (bound : ℕ) (run : List Step) (granule : ℕ) (within : granule < 2 ^
       record {
         stated = event.Poison s ∷ [];
         way = states (event.Poison s) [] run refl begins;
+        none = refl;
         is = poison_part bound [] s granule count some refl (omega arith) less;
       }
 
@@ -151,6 +154,7 @@ module _ (bound : ℕ) (run : List Step) (granule : ℕ) (within : granule < 2 ^
   by_whole s here size = record {
     stated = event.Poison s ∷ [];
     way = states (event.Poison s) [] run refl begins;
+    none = refl;
     is = poison_whole bound [] s granule (omega arith) (omega arith);
   }
 
@@ -163,10 +167,12 @@ module _ (bound : ℕ) (run : List Step) (granule : ℕ) (within : granule < 2 ^
   by_redzone at s =
       let high = s.high in
       let r = a_region at 0 (omega arith) (omega arith) in
-      let ok : admits bound [] (block_of r) ≡ true = may_be [] (block_of r) (s.aligned, s.low, end at high) refl in
+      let ok : admits bound [] (block_of r) ≡ true =
+      may_be_admitted-true [] (block_of r) (s.aligned, s.low, end at high) refl in
       record {
         stated = event.Malloc r ∷ [];
         way = states_block (event.Malloc r) [] run ok begins;
+        none = refl;
         is = shadow_malloc bound [] r granule ok ∙ redzone_number at granule s;
       }
     where
@@ -180,7 +186,7 @@ module _ (bound : ℕ) (run : List Step) (granule : ℕ) (within : granule < 2 ^
       let b = block_of r in
       let first = event.Malloc r ∷ [] in
       let placed : IsPlaced b = (multiple granule, low, end granule high) in
-      let ok : admits bound [] b ≡ true = may_be [] b placed refl in
+      let ok : admits bound [] b ≡ true = may_be_admitted-true [] b placed refl in
       let is_live : Contains (live bound first) b = rw (live_malloc bound r [] ok) (in_head b []) in
       let any : list_any (starts_at p.at) (live bound first) ≡ true =
       passes_any (starts_at p.at) (live bound first) b is_live (start (8 * granule)) in
@@ -190,6 +196,7 @@ module _ (bound : ℕ) (run : List Step) (granule : ℕ) (within : granule < 2 ^
       record {
         stated = event.Free p ∷ first;
         way = states_block (event.Free p) first run any (states_block (event.Malloc r) [] run ok begins);
+        none = refl;
         is = shadow_free bound first p b [] granule is_live refl now ∙ rw inside refl;
       }
     where
@@ -218,6 +225,7 @@ any_granule bound run fits granule =
       | inr past ↦ record {
         stated = [];
         way = begins;
+        none = refl;
         is = lift_past_the_end (marks_in run) (are_marks_in run) granule past;
       }
     ]
@@ -232,7 +240,8 @@ module _ (bound : ℕ) (run : List Step) (granule : ℕ) (within : granule < 2 ^
   -- what can be stated of a granule and of the next one
   record CanBothBeStated (shadow next : ℕ) : Type 0 where
     stated : List Event
-    way : RecordsLeanly bound shadow_bytes [] run stated run
+    way : RecordsLeanly bound [] run stated run
+    none : lean_numbers way ≡ []
     here : shadow_after bound stated granule ≡ shadow
     there : shadow_after bound stated (granule + 1) ≡ next
 
@@ -245,6 +254,7 @@ module _ (bound : ℕ) (run : List Step) (granule : ℕ) (within : granule < 2 ^
   good_too next there = record {
     stated = event.Unpoison all_good ∷ there.stated;
     way = states (event.Unpoison all_good) there.stated run refl there.way;
+    none = there.none;
     here = unpoison_whole bound there.stated all_good granule (omega arith) (omega arith);
     there =
         let from : min 8 (8 * granule - 8 * (granule + 1)) ≡ 0 = omega arith in
@@ -260,6 +270,7 @@ module _ (bound : ℕ) (run : List Step) (granule : ℕ) (within : granule < 2 ^
       record {
         stated = event.Poison s ∷ good.stated;
         way = states (event.Poison s) good.stated run refl good.way;
+        none = good.none;
         here = poison_part bound good.stated s granule count some refl (omega arith) (rw good.here less);
         there =
             let from : min 8 (8 * granule + count - 8 * (granule + 1)) ≡ 0 = omega arith in
@@ -284,7 +295,17 @@ count_of bound granule shadow (given_freed fits low high) off = absurd (false≢
 -- some events that may be put in since nothing was recorded, after which an event may be recorded
 record CanBeRecorded (bound : ℕ) (run : List Step) (e : Event) : Type 0 where
   pub stated : List Event
-  pub way : RecordsLeanly bound shadow_bytes [] run (e ∷ stated) (Does e ∷ run)
+  pub way : RecordsLeanly bound [] run (e ∷ stated) (Does e ∷ run)
+  pub all : FindAllBytes (lean_numbers way)
+
+-- an event that is the first to be recorded, and finds all
+alone_finds_all : (numbers : List (ℕ × ℕ × Detail)) → numbers ≡ [] → (m n : ℕ)
+    → FindAllBytes (numbers ++ (m, n, shadow_bytes) ∷ [])
+alone_finds_all numbers none m n found has =
+    elim (cons_cases found (m, n, shadow_bytes) [] (rw none at has)) [
+      | inl same ↦ sym (ap (λ (f : ℕ × ℕ × Detail). f.2) same)
+      | inr more ↦ absurd (in_none found more)
+    ]
 
 module _ (bound : ℕ) (run : List Step) (fits : EachHeldFits bound run) (is_store : Bool) (a : Access) where
   decides : deciding_granule (state_of (marks_in run)) a.at
@@ -297,10 +318,11 @@ module _ (bound : ℕ) (run : List Step) (fits : EachHeldFits bound run) (is_sto
   own_says negative =
       let can = any_granule bound run fits (a.at / 8) in record {
         stated = can.stated;
-        way = access is_store a can.stated run (record {
+        way = access shadow_bytes is_store a can.stated run (record {
           here = can.is;
           class_there = λ bad. rw (decides, negative) can.is;
         }) can.way;
+        all = alone_finds_all (lean_numbers can.way) can.none (length can.stated + 1) (length (events_of run) + 1);
       }
 
   -- the next one does
@@ -314,10 +336,11 @@ module _ (bound : ℕ) (run : List Step) (fits : EachHeldFits bound run) (is_sto
       (shadow_in run (a.at / 8 + 1)) less (any_granule bound run fits (a.at / 8 + 1)) in
       record {
         stated = can.stated;
-        way = access is_store a can.stated run (record {
+        way = access shadow_bytes is_store a can.stated run (record {
           here = can.here;
           class_there = λ bad. rw (decides, off) can.there;
         }) can.way;
+        all = alone_finds_all (lean_numbers can.way) can.none (length can.stated + 1) (length (events_of run) + 1);
       }
     where
       some_byte : (width : ℕ) → IsTrue (is_width width) → 0 < width
@@ -338,7 +361,8 @@ module _ (bound : ℕ) (run : List Step) (fits : EachHeldFits bound run) (is_sto
 -- what a history lays out of one block alone, which was asked for in the run
 record CanBeLaidOut (bound : ℕ) (run : List Step) (lives helds : List Extent) : Type 0 where
   stated : List Event
-  way : RecordsLeanly bound shadow_bytes [] run stated run
+  way : RecordsLeanly bound [] run stated run
+  none : lean_numbers way ≡ []
   lives_are : live bound stated ≡ lives
   helds_are : held bound stated ≡ helds
 
@@ -373,7 +397,7 @@ alone b = IsDistinct-cons meets b [] tt none_apart
 
 module _ (bound : ℕ) (run : List Step) (r : Region) (placed : IsPlaced (block_of r)) where
   first_ok : admits bound [] (block_of r) ≡ true
-  first_ok = may_be [] (block_of r) placed refl
+  first_ok = may_be_admitted-true [] (block_of r) placed refl
 
   one_placed : (b : Extent) → Contains (block_of r ∷ []) b → IsPlaced b
   one_placed b has =
@@ -391,6 +415,7 @@ module _ (bound : ℕ) (run : List Step) (r : Region) (placed : IsPlaced (block_
       }) in record {
         stated = event.Malloc r ∷ [];
         way = states_block (event.Malloc r) [] run first_ok begins;
+        none = refl;
         lives_are = stand.lives_are;
         helds_are = stand.helds_are;
       }
@@ -411,6 +436,7 @@ module _ (bound : ℕ) (run : List Step) (r : Region) (placed : IsPlaced (block_
         way = states_block (event.Free p) (event.Malloc r ∷ []) run (passes_any (starts_at p.at)
             (live bound (event.Malloc r ∷ [])) (block_of r) is_live (eq-eqb r.at p.at (sym here)))
             (states_block (event.Malloc r) [] run first_ok begins);
+        none = refl;
         lives_are = stand.lives_are;
         helds_are = stand.helds_are;
       }
@@ -435,16 +461,19 @@ module _ (bound : ℕ) (run : List Step) (fits : EachHeldFits bound run) (b : Ex
 -- ---- a free
 
 module _ (bound : ℕ) (run : List Step) (fits : EachHeldFits bound run) (p : Place) where
-  after_stated : (stated : List Event) → RecordsLeanly bound shadow_bytes [] run stated run
+  after_stated : (stated : List Event) (way : RecordsLeanly bound [] run stated run) → lean_numbers way ≡ []
       → HaveSameStart bound stated run p.at → CanBeRecorded bound run (event.Free p)
-  after_stated stated way same =
-      record { stated = stated; way = block (event.Free p) stated run same way }
+  after_stated stated way none same = record {
+    stated = stated;
+    way = block (event.Free p) stated run same way;
+    all = alone_finds_all (lean_numbers way) none (length stated + 1) (length (events_of run) + 1);
+  }
 
   free_of_live : list_any (starts_at p.at) (live_in run) ≡ true → CanBeRecorded bound run (event.Free p)
   free_of_live any =
       let found = any_passes (starts_at p.at) (live_in run) any in
       let can = live_laid bound run fits found.0 found.1 in
-      after_stated can.stated can.way (record {
+      after_stated can.stated can.way can.none (record {
         live_there = rw (can.lives_are, found.2, any) refl;
         held_there = λ none. absurd (false≢true (sym none ∙ any));
       })
@@ -454,7 +483,7 @@ module _ (bound : ℕ) (run : List Step) (fits : EachHeldFits bound run) (p : Pl
   free_of_held none any =
       let found = any_passes (starts_at p.at) (held_in run) any in
       let can = held_laid bound run fits found.0 found.1 in
-      after_stated can.stated can.way (record {
+      after_stated can.stated can.way can.none (record {
         live_there = rw (can.lives_are, none) refl;
         held_there = λ off. rw (can.helds_are, found.2, any) refl;
       })
@@ -465,7 +494,7 @@ module _ (bound : ℕ) (run : List Step) (fits : EachHeldFits bound run) (p : Pl
         | inl any ↦ free_of_live any
         | inr none ↦ elim (cases_Bool (list_any (starts_at p.at) (held_in run))) [
           | inl any ↦ free_of_held none any
-          | inr neither ↦ after_stated [] begins (record {
+          | inr neither ↦ after_stated [] begins refl (record {
             live_there = sym none;
             held_there = λ off. sym neither;
           })
@@ -493,11 +522,13 @@ module _ (bound : ℕ) (run : List Step) (fits : EachHeldFits bound run) (r : Re
           stated = can.stated;
           way = block (event.Malloc r) can.stated run
               (met_alone can.stated found.0 (rw (can.lives_are, can.helds_are) refl) found.2 ∙ sym refused) can.way;
+          all = alone_finds_all (lean_numbers can.way) can.none (length can.stated + 1) (length (events_of run) + 1);
         }
         | inr is_held ↦ let can = held_laid bound run fits found.0 is_held in record {
           stated = can.stated;
           way = block (event.Malloc r) can.stated run
               (met_alone can.stated found.0 (rw (can.lives_are, can.helds_are) refl) found.2 ∙ sym refused) can.way;
+          all = alone_finds_all (lean_numbers can.way) can.none (length can.stated + 1) (length (events_of run) + 1);
         }
       ]
 
@@ -508,6 +539,7 @@ module _ (bound : ℕ) (run : List Step) (fits : EachHeldFits bound run) (r : Re
         | inr none ↦ record {
           stated = [];
           way = block (event.Malloc r) [] run (rw none refl) begins;
+          all = alone_finds_all [] refl 1 (length (events_of run) + 1);
         }
       ]
 
@@ -522,5 +554,6 @@ module _ (bound : ℕ) (run : List Step) (fits : EachHeldFits bound run) where
   any_event e is = absurd (false≢true (sym is))
 
   pub can_be_recorded : (e : Event) → is_shade e ≡ false →
-      (stated : List Event) × RecordsLeanly bound shadow_bytes [] run (e ∷ stated) (Does e ∷ run)
-  can_be_recorded e is = let can = any_event e is in (can.stated, can.way)
+      (stated : List Event) × (way : RecordsLeanly bound [] run (e ∷ stated) (Does e ∷ run))
+      × FindAllBytes (lean_numbers way)
+  can_be_recorded e is = let can = any_event e is in (can.stated, can.way, can.all)

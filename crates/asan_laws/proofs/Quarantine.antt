@@ -26,10 +26,9 @@ use Rattle.asan_check.proofs.Members.{in_none, in_head, cons_cases, at_element, 
 use Rattle.asan_check.proofs.Members.{filter_none, apart_starts, apart_across, apart_right, starts_once}
 use Rattle.asan_check.proofs.Steps.{live_free, live_malloc, held_free, held_malloc}
 use Rattle.asan_laws.specs.Laws.{asks_for, since_malloc, since_free}
-use Rattle.asan_laws.specs.Recording.{Detail}
 use Rattle.asan_laws.specs.Runs.{Step, Does, Releases, events_of, live_in, held_in, admits_in, marks_in, fault_in}
 use Rattle.asan_laws.specs.Runs.{verdict_in, verdicts_in, since_malloc_in, since_free_in, releasing, with_quarantine}
-use Rattle.asan_laws.specs.LeanRecording.{EachHeldFits, RecordsLeanly, releases}
+use Rattle.asan_laws.specs.LeanRecording.{EachHeldFits, RecordsLeanly, lean_numbers, releases}
 use Rattle.asan_laws.proofs.RunBlocks.{live_malloc_in, live_refused_in, apart_in}
 
 -- ---- releases, one after the other
@@ -298,15 +297,20 @@ since_is bound past b = (since_malloc_is bound past b, since_free_is bound past 
 -- ---- recordings of it
 
 -- the releases that follow an event
-module _ (bound : ℕ) (detail : Detail) (first : List Event) (past : List Step) (recorded : List Event) where
-  then_released : (bs : List Extent) (run : List Step) → RecordsLeanly bound detail first past recorded run
-      → RecordsLeanly bound detail first past recorded (releasing bs run)
-  then_released [] run way = way
+module _ (bound : ℕ) (first : List Event) (past : List Step) (recorded : List Event) where
+  -- a recording of a run that goes on, with the same numbers
+  abbrev GoesOn : {run : List Step} → RecordsLeanly bound first past recorded run → List Step → Type 0
+  GoesOn way later =
+      (on : RecordsLeanly bound first past recorded later) × (lean_numbers on ≡ lean_numbers way)
+
+  then_released : (bs : List Extent) (run : List Step) (way : RecordsLeanly bound first past recorded run)
+      → GoesOn way (releasing bs run)
+  then_released [] run way = (way, refl)
   then_released (b ∷ bs) run way = then_released bs (Releases b.at ∷ run) (releases b.at recorded run way)
 
   pub goes_on : (run : List Event) (e : Event)
-      → RecordsLeanly bound detail first past recorded (Does e ∷ with_quarantine bound run)
-      → RecordsLeanly bound detail first past recorded (with_quarantine bound (e ∷ run))
+      (way : RecordsLeanly bound first past recorded (Does e ∷ with_quarantine bound run))
+      → GoesOn way (with_quarantine bound (e ∷ run))
   goes_on run (event.Free p) way =
       let next = Does (event.Free p) ∷ with_quarantine bound run in then_released (gone bound next) next way
-  goes_on run e way = way
+  goes_on run e way = (way, refl)

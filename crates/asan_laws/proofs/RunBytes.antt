@@ -14,7 +14,7 @@ use Rattle.trace_record.specs.declared.event.Region.{Region}
 use Rattle.shadow_map.specs.States.{Addressable, HeapRedzone, Block, lies_in, state_of}
 use Rattle.heap_book.specs.Spans.{Extent, meets, starts_at}
 use Rattle.asan_units.specs.Units.{round_up}
-use Rattle.heap_book.proofs.NeverMeet.{meets-flip}
+use Rattle.heap_book.proofs.NeverMeet.{meets-flip, unmet-admitted}
 use Rattle.asan_check.specs.Codes.{Freed}
 use Rattle.asan_check.specs.History.{block_of, freed_mark, released_mark}
 use Rattle.asan_check.proofs.Members.{in_none, from_filtered, none_passes, apart_across, apart_left, apart_right}
@@ -23,7 +23,6 @@ use Rattle.asan_check.proofs.Steps.{eqb_flips}
 use Rattle.asan_laws.specs.Laws.{asks_for}
 use Rattle.asan_laws.specs.Runs.{Step, Does, Releases, live_in, held_in, admits_in, marks_in, since_malloc_in}
 use Rattle.asan_laws.specs.Runs.{since_free_in}
-use Rattle.asan_laws.proofs.Blocks.{admitted_apart}
 use Rattle.asan_laws.proofs.Bytes.{NeitherShares, NeitherShares-tail, own_marks_leave, own_byte, bytes_in_span}
 use Rattle.asan_laws.proofs.Bytes.{rounds_up}
 use Rattle.asan_laws.proofs.Frames.{IsInSpan, block_leaves, freed_leaves, released_leaves, marked_leaves}
@@ -37,7 +36,7 @@ taken_not_admitted : (run : List Step) (b : Extent) → Contains (live_in run ++
 taken_not_admitted run b has =
     let taken = live_in run ++ held_in run in
     false_from_ne_true _ (λ ok. both_ways (meets b b)
-    (none_passes (meets b) taken b (admitted_apart taken b ok) has) (meets_same b b refl))
+    (none_passes (meets b) taken b (unmet-admitted taken b ok) has) (meets_same b b refl))
 
 not_its_malloc : (run : List Step) (b : Extent) (r : Region) → Contains (live_in run ++ held_in run) b →
     since_malloc_in (Does (event.Malloc r) ∷ run) b ≡ event.Malloc r ∷ since_malloc_in run b
@@ -93,7 +92,7 @@ module _ (run : List Step) (b : Extent) (byte : ℕ) (in_span : IsInSpan b byte)
       go true is =
           let taken = live_in run ++ held_in run in
           let apart = meets-flip b (block_of r) ∙ none_passes (meets (block_of r)) taken b
-          (admitted_apart taken (block_of r) is) has in
+          (unmet-admitted taken (block_of r) is) has in
           block_leaves b (block_of r) byte apart in_span (marks_in run)
 
   -- another of some blocks that starts elsewhere

@@ -1,6 +1,6 @@
 -- A history that is a snapshot of another: what its blocks are, that nothing is wrong in it, and in which granules
 -- it has left the same.
-use Rattle.std.proofs.Common.{◌≡◌, ℕ, zero, suc, ◌+◌, ◌*◌, ◌%◌, ◌^◌, ◌≤◌, ◌<◌, Bool, true, false, cond, eqb}
+use Rattle.std.proofs.Common.{◌≡◌, ℕ, zero, suc, ◌+◌, ◌*◌, ◌≤◌, ◌<◌, Bool, true, false, cond, eqb}
 use Rattle.std.proofs.Common.{List, [], ◌∷◌, ◌++◌, Some, None, refl, sym, ap, subst, ◌∙◌, arith, inl, inr, append_assoc}
 use Rattle.std.proofs.Common.{leb, ltb, add-zero}
 use Rattle.std.specs.Prelude.{◌⊎◌, not, ◌&&◌, ◌||◌, filter, Contains, sum_by}
@@ -25,10 +25,10 @@ use Rattle.shadow_map.specs.States.{State, Addressable, Coded, Mark, Block, stat
 use Rattle.shadow_map.specs.States.{addressable_front, shadow_byte, lies_in}
 use Rattle.trace_record.specs.Shades.{shade_size, shade_kind}
 use Rattle.heap_book.specs.Spans.{Extent, IsPlaced, span_from, span_to}
-use Rattle.heap_book.specs.Spans.{span_bytes, meets, may_be_admitted, held_of, starts_at}
+use Rattle.heap_book.specs.Spans.{span_bytes, meets, held_of, starts_at}
 use Rattle.heap_book.proofs.Held.{held-within, held-total}
-use Rattle.heap_book.proofs.NeverMeet.{meets-flip}
-use Rattle.asan_units.specs.Units.{redzone, round_up}
+use Rattle.heap_book.proofs.NeverMeet.{may_be_admitted-true, meets-flip}
+use Rattle.asan_units.specs.Units.{round_up}
 use Rattle.asan_check.specs.Codes.{code_of_kind}
 use Rattle.asan_check.specs.History.{block_of, live, freed, held, admits, marks, freed_mark}
 use Rattle.asan_check.specs.Verdicts.{fault_of, verdicts_of}
@@ -72,18 +72,6 @@ fit_of bound past lives same =
           ];
       within = held-total bound (freed bound past);
     }
-
--- a block that is placed and meets none of those that are taken is admitted beside them
-pub may_be : (taken : List Extent) (b : Extent) → IsPlaced b → list_any (meets b) taken ≡ false
-    → may_be_admitted taken b ≡ true
-may_be taken b placed none =
-    let start = placed.0 in
-    let above = placed.1 in
-    let end = placed.2 in
-    let first : eqb (b.at % 8) 0 ≡ true = grind (arith, nat_tests) in
-    let second : leb redzone b.at ≡ true = grind (arith, nat_tests) in
-    let third : leb (span_to b) (2 ^ 47) ≡ true = grind (arith, nat_tests) in
-    rw (first, second, third, none) refl
 
 -- of blocks that fit, one that stands at the head has room beside the others, which fit too
 record HasRoom (bound : ℕ) (lives helds : List Extent) (b : Extent) : Type 0 where
@@ -149,7 +137,7 @@ pub record Stand (bound : ℕ) (laid : List Event) (lives helds : List Extent) :
 module _ (bound : ℕ) (laid : List Event) (lives helds : List Extent) (r : Region) (s : Stand bound laid lives helds)
     (room : HasRoom bound lives helds (block_of r)) where
   admitted : admits bound laid (block_of r) ≡ true
-  admitted = rw (s.lives_are, s.helds_are) (may_be (lives ++ helds) (block_of r) room.placed room.none)
+  admitted = rw (s.lives_are, s.helds_are) (may_be_admitted-true (lives ++ helds) (block_of r) room.placed room.none)
 
   good_malloc : fault_of bound laid (event.Malloc r) ≡ None
   good_malloc = rw admitted (go (eqb r.at 0))

@@ -23,7 +23,8 @@ use Rattle.asan_check.specs.declared.report.Fault.{Fault}
 use Rattle.asan_check.specs.Verdicts.{fault_of, is_access, marks_none, verdicts_of}
 use Rattle.asan_laws.specs.Laws.{access_event, since_malloc, since_free, NoneCovers, IsPoisonedSince}
 use Rattle.asan_laws.specs.Snapshots.{is_shade, NoneShares, LiesInSpan, LiesInBytes}
-use Rattle.asan_laws.specs.Recording.{Detail, AreSameAt, ShowAsMuch, AddTheSame, is_of_block}
+use Rattle.asan_laws.specs.Recording.{Detail, shadow_bytes, AreSameAt, ShowAsMuch, AddTheSame}
+use Rattle.asan_laws.specs.Recording.{is_of_block}
 use Rattle.asan_laws.specs.Runs.{Step, Does, Releases, events_of, live_in, held_in, admits_in}
 use Rattle.asan_laws.specs.Runs.{marks_in, shadow_in, fault_in, verdicts_in}
 
@@ -69,58 +70,60 @@ MayBeStated bound recorded e = ⊥
 -- ---- what a recorder may write
 
 -- a lean recording of a run: each event of either came to its place in one of these ways
-pub data RecordsLeanly (bound : ℕ) (detail : Detail) (first : List Event) (past : List Step)
+pub data RecordsLeanly (bound : ℕ) (first : List Event) (past : List Step)
     : List Event → List Step → Type 0 where
   -- the recording begins with these first events, when this is what the run has done
-  begins : RecordsLeanly bound detail first past first past
+  begins : RecordsLeanly bound first past first past
   -- a malloc or a free is recorded, which finds in the recording what it finds in the run
   block : (e : Event) (recorded : List Event) (run : List Step)
-      → FindsItsBlock bound recorded run e → RecordsLeanly bound detail first past recorded run
-      → RecordsLeanly bound detail first past (e ∷ recorded) (Does e ∷ run)
-  -- a load or a store is recorded, which finds in the recording what it finds in the run
-  access : (is_store : Bool) (a : Access) (recorded : List Event) (run : List Step)
-      → FindsInRun bound detail recorded run a → RecordsLeanly bound detail first past recorded run
-      → RecordsLeanly bound detail first past (access_event is_store a ∷ recorded)
+      → FindsItsBlock bound recorded run e → RecordsLeanly bound first past recorded run
+      → RecordsLeanly bound first past (e ∷ recorded) (Does e ∷ run)
+  -- a load or a store is recorded, which finds in the recording what it finds in the run, as far as
+  -- this detail says
+  access : (detail : Detail) (is_store : Bool) (a : Access) (recorded : List Event)
+      (run : List Step)
+      → FindsInRun bound detail recorded run a → RecordsLeanly bound first past recorded run
+      → RecordsLeanly bound first past (access_event is_store a ∷ recorded)
       (Does (access_event is_store a) ∷ run)
   -- a malloc or a free is left out, which is good in the run
   leaves_out_block : (e : Event) (recorded : List Event) (run : List Step) → IsTrue (is_of_block e)
-      → fault_in run e ≡ None → RecordsLeanly bound detail first past recorded run
-      → RecordsLeanly bound detail first past recorded (Does e ∷ run)
+      → fault_in run e ≡ None → RecordsLeanly bound first past recorded run
+      → RecordsLeanly bound first past recorded (Does e ∷ run)
   -- a malloc or a free is put in, which states what some block is
   states_block : (e : Event) (recorded : List Event) (run : List Step)
-      → MayBeStated bound recorded e → RecordsLeanly bound detail first past recorded run
-      → RecordsLeanly bound detail first past (e ∷ recorded) run
+      → MayBeStated bound recorded e → RecordsLeanly bound first past recorded run
+      → RecordsLeanly bound first past (e ∷ recorded) run
   -- the run releases a block, and the recording stays as it is
   releases : (at : ℕ) (recorded : List Event) (run : List Step)
-      → RecordsLeanly bound detail first past recorded run
-      → RecordsLeanly bound detail first past recorded (Releases at ∷ run)
+      → RecordsLeanly bound first past recorded run
+      → RecordsLeanly bound first past recorded (Releases at ∷ run)
   -- a load or a store is left out, which is good in the run
   leaves_out_access : (e : Event) (recorded : List Event) (run : List Step) → IsTrue (is_access e)
-      → fault_in run e ≡ None → RecordsLeanly bound detail first past recorded run
-      → RecordsLeanly bound detail first past recorded (Does e ∷ run)
+      → fault_in run e ≡ None → RecordsLeanly bound first past recorded run
+      → RecordsLeanly bound first past recorded (Does e ∷ run)
   -- an event is put in that changes nothing, as a load does, and is good in the recording
   says_nothing : (e : Event) (recorded : List Event) (run : List Step) → IsTrue (marks_none e)
-      → fault_of bound recorded e ≡ None → RecordsLeanly bound detail first past recorded run
-      → RecordsLeanly bound detail first past (e ∷ recorded) run
+      → fault_of bound recorded e ≡ None → RecordsLeanly bound first past recorded run
+      → RecordsLeanly bound first past (e ∷ recorded) run
   -- a poison or an unpoison is left out; one that is recorded in its place is also put in
   leaves_out_shade : (e : Event) (recorded : List Event) (run : List Step) → IsTrue (is_shade e)
-      → RecordsLeanly bound detail first past recorded run
-      → RecordsLeanly bound detail first past recorded (Does e ∷ run)
+      → RecordsLeanly bound first past recorded run
+      → RecordsLeanly bound first past recorded (Does e ∷ run)
   -- a poison or an unpoison is put in, which states what some memory is
   states : (e : Event) (recorded : List Event) (run : List Step) → IsTrue (is_shade e)
-      → RecordsLeanly bound detail first past recorded run
-      → RecordsLeanly bound detail first past (e ∷ recorded) run
+      → RecordsLeanly bound first past recorded run
+      → RecordsLeanly bound first past (e ∷ recorded) run
 
--- of each event that stands in both, and has since the recording began, its number in the recording
--- and its number in the run, in their order
-abbrev pub lean_numbers : {bound : ℕ} {detail : Detail} {first : List Event} {past : List Step}
+-- of each event that stands in both, and has since the recording began, its number in the
+-- recording, its number in the run, and how much it finds as in the run, in their order
+abbrev pub lean_numbers : {bound : ℕ} {first : List Event} {past : List Step}
     {recorded : List Event} {run : List Step}
-    → RecordsLeanly bound detail first past recorded run → List (ℕ × ℕ)
+    → RecordsLeanly bound first past recorded run → List (ℕ × ℕ × Detail)
 lean_numbers begins = []
 lean_numbers (block e recorded run finds way) =
-    lean_numbers way ++ (length recorded + 1, length (events_of run) + 1) ∷ []
-lean_numbers (access is_store a recorded run finds way) =
-    lean_numbers way ++ (length recorded + 1, length (events_of run) + 1) ∷ []
+    lean_numbers way ++ (length recorded + 1, length (events_of run) + 1, shadow_bytes) ∷ []
+lean_numbers (access detail is_store a recorded run finds way) =
+    lean_numbers way ++ (length recorded + 1, length (events_of run) + 1, detail) ∷ []
 lean_numbers (leaves_out_block e recorded run is good way) = lean_numbers way
 lean_numbers (states_block e recorded run may way) = lean_numbers way
 lean_numbers (releases at recorded run way) = lean_numbers way
@@ -130,8 +133,8 @@ lean_numbers (leaves_out_shade e recorded run is way) = lean_numbers way
 lean_numbers (states e recorded run is way) = lean_numbers way
 
 -- since a lean recording began, the same is reported of it as of the run
-abbrev pub AreReportedInRun : ℕ → List (ℕ × ℕ) → (Fault → Fault → Type 0) → List Event → List Step
-    → List Event → List Step → Type 0
+abbrev pub AreReportedInRun : ℕ → List (ℕ × ℕ × Detail) → (Detail → Fault → Fault → Type 0)
+    → List Event → List Step → List Event → List Step → Type 0
 AreReportedInRun bound numbers Same first past recorded run =
     AddTheSame numbers Same (verdicts_of bound first) (verdicts_of bound recorded)
     (verdicts_in past) (verdicts_in run)
@@ -140,13 +143,21 @@ AreReportedInRun bound numbers Same first past recorded run =
 -- run has done this past, as that of a forked child is its parent's, and each other one when the
 -- one before it has ended: with some events in which nothing is wrong, as poisons and unpoisons.
 -- Nothing that the one before it had has to stand in it.
-pub data RecordsInSegments (bound : ℕ) (detail : Detail) (past : List Step)
+pub data RecordsInSegments (bound : ℕ) (past : List Step)
     : List (List Event) → List Step → Type 0 where
-  no_segment : RecordsInSegments bound detail past [] past
+  no_segment : RecordsInSegments bound past [] past
   one_more : (segments : List (List Event)) (first recorded : List Event) (before run : List Step)
-      → verdicts_of bound first ≡ [] → RecordsInSegments bound detail past segments before
-      → RecordsLeanly bound detail first before recorded run
-      → RecordsInSegments bound detail past (segments ++ recorded ∷ []) run
+      → verdicts_of bound first ≡ [] → RecordsInSegments bound past segments before
+      → RecordsLeanly bound first before recorded run
+      → RecordsInSegments bound past (segments ++ recorded ∷ []) run
+
+-- of each event that stands in a segment and in the run, its numbers and how much it finds, in
+-- their order; the number in the run says in which segment
+abbrev pub segment_numbers : {bound : ℕ} {past : List Step} {segments : List (List Event)}
+    {run : List Step} → RecordsInSegments bound past segments run → List (ℕ × ℕ × Detail)
+segment_numbers no_segment = []
+segment_numbers (one_more segments first recorded before run quiet earlier way) =
+    segment_numbers earlier ++ lean_numbers way
 
 -- ---- shadow bytes, and what each event makes of them
 

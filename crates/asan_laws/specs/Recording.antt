@@ -53,7 +53,7 @@ ShowAsMany recorded run a =
     front_of (lift (state_of recorded) (granule_of a.at))
     ≡ front_of (lift (state_of run) (granule_of a.at))
 
--- what a recorded access has to find as it is in the run: all shadow bytes that it looks at, or
+-- how much of what a recorded access finds is as in the run: all shadow bytes that it looks at, or
 -- only how many bytes are addressable
 pub data Detail : Type 0 where
   shadow_bytes : Detail
@@ -86,52 +86,59 @@ is_of_block (event.Free p) = true
 is_of_block e = false
 
 -- a recording of a run: each event of either came to its place in one of these ways
-pub data Records (bound : ℕ) (detail : Detail) (first past : List Event)
+pub data Records (bound : ℕ) (first past : List Event)
     : List Event → List Event → Type 0 where
   -- the recording begins with these first events, when this is what the run has done
-  begins : Records bound detail first past first past
+  begins : Records bound first past first past
   -- a malloc or a free is recorded
   block : (e : Event) (recorded run : List Event) → IsTrue (is_of_block e)
-      → Records bound detail first past recorded run
-      → Records bound detail first past (e ∷ recorded) (e ∷ run)
-  -- a load or a store is recorded, which finds in the recording what it finds in the run
-  access : (is_store : Bool) (a : Access) (recorded run : List Event)
-      → Finds bound detail recorded run a → Records bound detail first past recorded run
-      → Records bound detail first past (access_event is_store a ∷ recorded)
+      → Records bound first past recorded run
+      → Records bound first past (e ∷ recorded) (e ∷ run)
+  -- a load or a store is recorded, which finds in the recording what it finds in the run, as far as
+  -- this detail says
+  access : (detail : Detail) (is_store : Bool) (a : Access) (recorded run : List Event)
+      → Finds bound detail recorded run a → Records bound first past recorded run
+      → Records bound first past (access_event is_store a ∷ recorded)
       (access_event is_store a ∷ run)
   -- a load or a store is left out, which is good in the run
   leaves_out_access : (e : Event) (recorded run : List Event) → IsTrue (is_access e)
-      → fault_of bound run e ≡ None → Records bound detail first past recorded run
-      → Records bound detail first past recorded (e ∷ run)
+      → fault_of bound run e ≡ None → Records bound first past recorded run
+      → Records bound first past recorded (e ∷ run)
   -- an event is put in that changes nothing, as a load does, and is good in the recording
   says_nothing : (e : Event) (recorded run : List Event) → IsTrue (marks_none e)
-      → fault_of bound recorded e ≡ None → Records bound detail first past recorded run
-      → Records bound detail first past (e ∷ recorded) run
+      → fault_of bound recorded e ≡ None → Records bound first past recorded run
+      → Records bound first past (e ∷ recorded) run
   -- a poison or an unpoison is left out; one that is recorded in its place is also put in
   leaves_out_shade : (e : Event) (recorded run : List Event) → IsTrue (is_shade e)
-      → Records bound detail first past recorded run
-      → Records bound detail first past recorded (e ∷ run)
+      → Records bound first past recorded run
+      → Records bound first past recorded (e ∷ run)
   -- a poison or an unpoison is put in, which states what some memory is
   states : (e : Event) (recorded run : List Event) → IsTrue (is_shade e)
-      → Records bound detail first past recorded run
-      → Records bound detail first past (e ∷ recorded) run
+      → Records bound first past recorded run
+      → Records bound first past (e ∷ recorded) run
 
--- of each event that stands in both, and has since the recording began, its number in the recording
--- and its number in the run, in their order
-abbrev pub numbers_in_both : {bound : ℕ} {detail : Detail} {first past recorded run : List Event}
-    → Records bound detail first past recorded run → List (ℕ × ℕ)
+-- of each event that stands in both, and has since the recording began, its number in the
+-- recording, its number in the run, and how much it finds as in the run, in their order; a malloc
+-- or a free looks at no shadow byte that is not
+abbrev pub numbers_in_both : {bound : ℕ} {first past recorded run : List Event}
+    → Records bound first past recorded run → List (ℕ × ℕ × Detail)
 numbers_in_both begins = []
 numbers_in_both (block e recorded run is way) =
-    numbers_in_both way ++ (length recorded + 1, length run + 1) ∷ []
-numbers_in_both (access is_store a recorded run finds way) =
-    numbers_in_both way ++ (length recorded + 1, length run + 1) ∷ []
+    numbers_in_both way ++ (length recorded + 1, length run + 1, shadow_bytes) ∷ []
+numbers_in_both (access detail is_store a recorded run finds way) =
+    numbers_in_both way ++ (length recorded + 1, length run + 1, detail) ∷ []
 numbers_in_both (leaves_out_access e recorded run is good way) = numbers_in_both way
 numbers_in_both (says_nothing e recorded run is good way) = numbers_in_both way
 numbers_in_both (leaves_out_shade e recorded run is way) = numbers_in_both way
 numbers_in_both (states e recorded run is way) = numbers_in_both way
 
+-- each of such events finds all shadow bytes that it looks at
+abbrev pub FindAllBytes : List (ℕ × ℕ × Detail) → Type 0
+FindAllBytes numbers =
+    (found : ℕ × ℕ × Detail) → Contains numbers found → found.2 ≡ shadow_bytes
+
 -- such numbers come before others, in the recording and in the run
-abbrev pub IsBefore : ℕ × ℕ → ℕ × ℕ → Type 0
+abbrev pub IsBefore : ℕ × ℕ × Detail → ℕ × ℕ × Detail → Type 0
 IsBefore these others = (these.0 < others.0) × (these.1 < others.1)
 
 -- an event has this number in a history, whose events count from 1
@@ -153,21 +160,29 @@ without_class f = f
 abbrev pub IsSameButForClass : Fault → Fault → Type 0
 IsSameButForClass one other = without_class one ≡ without_class other
 
--- faults are the same but for class and shadow byte; or one of these blocks was freed again, which
--- is a bad free in the recording and a double free in the run
-pub data IsSameButForCut (cut : List Extent) : Fault → Fault → Type 0 where
-  same : (one other : Fault) → IsSameButForClass one other → IsSameButForCut cut one other
+-- faults are the same, of an event that finds this much as in the run
+abbrev pub IsSameInDetail : Detail → Fault → Fault → Type 0
+IsSameInDetail shadow_bytes one other = one ≡ other
+IsSameInDetail addressable_bytes one other = IsSameButForClass one other
+
+-- they are; or one of these blocks was freed again, which is a bad free in the recording and a
+-- double free in the run
+pub data IsSameButForCut (cut : List Extent) (detail : Detail) : Fault → Fault → Type 0 where
+  same : (one other : Fault) → IsSameInDetail detail one other
+      → IsSameButForCut cut detail one other
   freed_again : (b : Extent) → Contains cut b
-      → IsSameButForCut cut (fault.BadFree b.at) (fault.DoubleFree b.at)
+      → IsSameButForCut cut detail (fault.BadFree b.at) (fault.DoubleFree b.at)
 
 -- a report on a recording and one on the run are on one event, by its numbers, and on the same
--- fault, where `Same` says when faults are
-abbrev pub IsReportedOfOne : List (ℕ × ℕ) → (Fault → Fault → Type 0) → Report → Report → Type 0
+-- fault, where `Same` says when faults are, of an event that finds this much as in the run
+abbrev pub IsReportedOfOne : List (ℕ × ℕ × Detail) → (Detail → Fault → Fault → Type 0)
+    → Report → Report → Type 0
 IsReportedOfOne numbers Same one other =
-    Contains numbers (one.number, other.number) × Same one.fault other.fault
+    (detail : Detail) × Contains numbers (one.number, other.number, detail)
+    × Same detail one.fault other.fault
 
 -- to the reports on a recording and to those on its run the same is added: such reports, one by one
-pub record AddTheSame (numbers : List (ℕ × ℕ)) (Same : Fault → Fault → Type 0)
+pub record AddTheSame (numbers : List (ℕ × ℕ × Detail)) (Same : Detail → Fault → Fault → Type 0)
     (first recorded past run : List Report) : Type 0 where
   pub of_recording : List Report
   pub of_run : List Report
@@ -176,8 +191,8 @@ pub record AddTheSame (numbers : List (ℕ × ℕ)) (Same : Fault → Fault → 
   pub one_by_one : AllZip (IsReportedOfOne numbers Same) of_recording of_run
 
 -- since the recording began, the same is reported of it as of the run
-abbrev pub AreReportedAlike : ℕ → List (ℕ × ℕ) → (Fault → Fault → Type 0) → List Event → List Event
-    → List Event → List Event → Type 0
+abbrev pub AreReportedAlike : ℕ → List (ℕ × ℕ × Detail) → (Detail → Fault → Fault → Type 0)
+    → List Event → List Event → List Event → List Event → Type 0
 AreReportedAlike bound numbers Same first past recorded run =
     AddTheSame numbers Same (verdicts_of bound first) (verdicts_of bound recorded)
     (verdicts_of bound past) (verdicts_of bound run)

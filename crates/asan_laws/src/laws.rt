@@ -12,21 +12,17 @@ ghost use Rattle.trace_record.specs.declared.event.Event.TheVariants as event;
 ghost use Rattle.trace_record.specs.Shades.{shade_size, shade_kind};
 ghost use Rattle.shadow_map.specs.States.{Mark, AreMarks, code_of, state_of, lift};
 ghost use Rattle.heap_book.specs.Spans.{Extent, span_from, span_to, meets};
-ghost use Rattle.asan_units.specs.Units.{granule_of, granule_size, first_byte, round_up};
+ghost use Rattle.asan_units.specs.Units.{granule_of, granule_size, first_byte};
 ghost use Rattle.asan_check.specs.declared.report.Class.{Class};
 ghost use Rattle.asan_check.specs.declared.report.Class.TheVariants as class;
 ghost use Rattle.asan_check.specs.declared.report.Fault.TheVariants as fault;
 ghost use Rattle.asan_check.specs.declared.report.Report.{Report};
 ghost use Rattle.asan_check.specs.Codes.{Freed, class_of_code, code_of_kind};
 ghost use Rattle.asan_check.specs.History.{live, held, marks};
-ghost use Rattle.asan_check.specs.Verdicts.{access_fault, fault_of, is_access, verdict, verdicts};
-ghost use Rattle.asan_check.specs.Verdicts.{verdicts_of};
+ghost use Rattle.asan_check.specs.Verdicts.{access_fault, fault_of, verdict, verdicts, verdicts_of};
 ghost use Rattle.asan_laws.specs.Classes.{IsTrueOf};
 ghost use Rattle.shadow_map.specs.Causes.{deciding_granule};
-ghost use Rattle.asan_laws.specs.Thinning.{LeaveTheSame, LeavesOutGood, IsSublist, faults_of};
-ghost use Rattle.asan_laws.specs.Thinning.{renumbered, thinned, one_later, LeavesOut};
-ghost use Rattle.asan_laws.specs.Thinning.{LeavesOutGoodOnes, EventsLeftOutAreGood, faults_on};
-ghost use Rattle.asan_laws.specs.Thinning.{thinned_events};
+ghost use Rattle.asan_laws.specs.Thinning.{LeaveTheSame, LeavesOut, IsSublist, faults_of};
 ghost use Rattle.asan_laws.specs.Snapshots.{StandTheSame, IsSnapshot, IsAsLaid, NoneShares};
 ghost use Rattle.asan_laws.specs.Snapshots.{later_by, is_shade};
 ghost use Rattle.asan_check.specs.declared.report.Fault.{Fault};
@@ -71,20 +67,30 @@ pub fn held_since_its_free()
 {}
 
 /// A load or a store that lies inside a live block is not reported, as long as no poison, of
-/// whatever kind, since the block's malloc shares a granule with the block.
+/// whatever kind, since the block's malloc shares a granule with the access's first byte.
 pub fn quiet_inside_live_block()
     ensures { (bound : ℕ) (past : List Event) (block : Extent) (is_store : Bool) (access : Access) →
         Contains (live bound past) block →
         LiesInside block access →
-        NoPoisonShares (since_malloc bound past block) block.at (block.at + block.size) →
+        NoPoisonShares (since_malloc bound past block) access.at (access.at + 1) →
         verdict bound past (access_event is_store access) ≡ None }
 {}
 
 /// A load or a store that starts in the span of a live block, but before or past the block's bytes,
-/// is reported as a heap buffer overflow whose bad byte is the first one, as long as no poison and
-/// no unpoison since the block's malloc shares a granule with the span.
+/// is reported at its first byte, as long as no poison and no unpoison since the block's malloc
+/// shares a granule with that byte; and as a heap buffer overflow, as long as none shares a granule
+/// with the span.
 pub fn overflow_is_reported()
-    ensures { (bound : ℕ) (past : List Event) (block : Extent) (is_store : Bool) (access : Access) →
+    ensures reported { (bound : ℕ) (past : List Event) (block : Extent) (is_store : Bool)
+        (access : Access) →
+        Contains (live bound past) block →
+        StartsAround block access →
+        NoPoisonShares (since_malloc bound past block) access.at (access.at + 1) →
+        NoUnpoisonShares (since_malloc bound past block) access.at (access.at + 1) →
+        (said : Class) × (verdict bound past (access_event is_store access)
+        ≡ Some (first_byte_report past is_store access said (shadow_around block access.at))) }
+    ensures overflow { (bound : ℕ) (past : List Event) (block : Extent) (is_store : Bool)
+        (access : Access) →
         Contains (live bound past) block →
         StartsAround block access →
         NoPoisonShares (since_malloc bound past block) (span_from block) (span_to block) →
@@ -96,13 +102,13 @@ pub fn overflow_is_reported()
 
 /// A load or a store that starts at the bytes of a held block, or at those that round its size up,
 /// is reported as a use after free whose bad byte is the first one, as long as no poison and no
-/// unpoison since the block's free shares a granule with those bytes.
+/// unpoison since the block's free shares a granule with that byte.
 pub fn use_after_free_is_reported()
     ensures { (bound : ℕ) (past : List Event) (block : Extent) (is_store : Bool) (access : Access) →
         Contains (held bound past) block →
         StartsWithin block access →
-        NoPoisonShares (since_free bound past block) block.at (block.at + round_up block.size) →
-        NoUnpoisonShares (since_free bound past block) block.at (block.at + round_up block.size) →
+        NoPoisonShares (since_free bound past block) access.at (access.at + 1) →
+        NoUnpoisonShares (since_free bound past block) access.at (access.at + 1) →
         verdict bound past (access_event is_store access)
         ≡ Some (first_byte_report past is_store access class.HeapUseAfterFree (code_of Freed)) }
 {}
@@ -161,27 +167,13 @@ pub fn reports_are_verdicts()
 {}
 
 /// Loads and stores leave no trace: whichever of them are left out of a history, its marks, its
-/// live blocks and its held blocks are the same.
+/// live blocks and its held blocks are the same, and so is what is wrong with an event after it. So
+/// a load or a store that is recorded twice has the same fault twice.
 pub fn accesses_leave_no_trace()
-    ensures { (bound : ℕ) (numbers : ℕ → Bool) (past : List Event) →
-        LeaveTheSame bound (thinned numbers past) past }
-{}
-
-/// After two histories that leave the same marks, live blocks and held blocks, the same is wrong
-/// with an event, or nothing is, and they leave the same again after it.
-pub fn the_same_is_left_again()
-    ensures verdict { (bound : ℕ) (one other : List Event) (event : Event) →
-        LeaveTheSame bound one other → fault_of bound one event ≡ fault_of bound other event }
-    ensures again { (bound : ℕ) (one other : List Event) (event : Event) →
-        LeaveTheSame bound one other → LeaveTheSame bound (event ∷ one) (event ∷ other) }
-{}
-
-/// After two histories that leave the same, any later events bring the same faults.
-pub fn later_faults_are_the_same()
-    ensures { (bound : ℕ) (one other later : List Event) → LeaveTheSame bound one other →
-        (added : List Fault)
-        × (faults_of bound (later ++ one) ≡ faults_of bound one ++ added)
-        × (faults_of bound (later ++ other) ≡ faults_of bound other ++ added) }
+    ensures trace { (bound : ℕ) (thin full : List Event) → LeavesOut thin full →
+        LeaveTheSame bound thin full }
+    ensures verdict { (bound : ℕ) (thin full : List Event) (event : Event) →
+        LeavesOut thin full → fault_of bound thin event ≡ fault_of bound full event }
 {}
 
 /// After two histories that stand the same, the same is wrong with an event, or nothing is, and
@@ -249,89 +241,6 @@ pub fn what_is_in_a_snapshot_stands_the_same()
 /// Leaving out loads and stores invents nothing: whichever are left out, the faults of what is left
 /// of a history are, in their order, some of those of the history.
 pub fn thinning_invents_nothing()
-    ensures { (bound : ℕ) (numbers : ℕ → Bool) (past : List Event) →
-        IsSublist (faults_of bound (thinned numbers past)) (faults_of bound past) }
-{}
-
-/// Leaving out loads and stores that are good where they stand loses nothing: the faults are the
-/// same, in their order, and the verdicts are the same but for their numbers, to each of which the
-/// count of what was left out before it is added.
-pub fn thinning_loses_nothing_bad()
-    ensures faults { (bound : ℕ) (numbers : ℕ → Bool) (full : List Event) →
-        LeavesOutGood bound numbers full →
-        faults_of bound (thinned numbers full) ≡ faults_of bound full }
-    ensures numbered { (bound : ℕ) (numbers : ℕ → Bool) (full : List Event) →
-        LeavesOutGood bound numbers full →
-        verdicts_of bound full
-        ≡ map (renumbered numbers full) (verdicts_of bound (thinned numbers full)) }
-{}
-
-/// A load or a store that is recorded a second time, right after the first, has its fault again,
-/// or none again, and leaves no trace. So with whatever events later, its fault stands twice in
-/// place of once, and all others stay; and the reports are the same, with the one on it a second
-/// time, and with numbers that are one more from there on.
-pub fn an_access_twice_gives_its_fault_twice()
-    ensures fault { (bound : ℕ) (past : List Event) (access : Event) →
-        IsTrue (is_access access) →
-        fault_of bound (access ∷ past) access ≡ fault_of bound past access }
-    ensures trace { (bound : ℕ) (past : List Event) (access : Event) →
-        IsTrue (is_access access) →
-        LeaveTheSame bound (access ∷ past) (access ∷ access ∷ past) }
-    ensures faults { (bound : ℕ) (past : List Event) (access : Event) →
-        IsTrue (is_access access) → (later : List Event) →
-        let said = option_to_list (fault_of bound past access) in (added : List Fault)
-        × (faults_of bound (later ++ access ∷ past) ≡ (faults_of bound past ++ said) ++ added)
-        × (faults_of bound (later ++ access ∷ access ∷ past)
-        ≡ ((faults_of bound past ++ said) ++ said) ++ added) }
-    ensures reports { (bound : ℕ) (before after : List Event) (access : Event) →
-        IsTrue (is_access access) →
-        let said = option_to_list (verdict bound (reverse before) access) in (added : List Report)
-        × (verdicts bound (before ++ access ∷ after) ≡ (verdicts bound before ++ said) ++ added)
-        × (verdicts bound (before ++ access ∷ access ∷ after)
-        ≡ ((verdicts bound before ++ said) ++ map one_later said) ++ map one_later added) }
-{}
-
-/// Each way to leave out loads and stores of a list of events is a test of their numbers, whether
-/// the newest event stands first or the oldest, and each test is such a way. The same is so of the
-/// ways that leave out, of a history, good ones alone. So the laws on tests speak of every way.
-pub fn each_way_to_leave_out_is_a_test_of_numbers()
-    ensures of_a_history { (thin full : List Event) → LeavesOut thin full →
-        (numbers : ℕ → Bool) × (thinned numbers full ≡ thin) }
-    ensures of_events { (thin full : List Event) → LeavesOut thin full →
-        (numbers : ℕ → Bool) × (thinned_events numbers full ≡ thin) }
-    ensures thinned_is_a_way { (numbers : ℕ → Bool) (past : List Event) →
-        LeavesOut (thinned numbers past) past }
-    ensures thinned_events_is_a_way { (numbers : ℕ → Bool) (events : List Event) →
-        LeavesOut (thinned_events numbers events) events }
-    ensures of_good_ones { (bound : ℕ) (thin full : List Event) →
-        LeavesOutGoodOnes bound thin full → (numbers : ℕ → Bool)
-        × (thinned numbers full ≡ thin) × LeavesOutGood bound numbers full }
-    ensures good_is_a_way { (bound : ℕ) (numbers : ℕ → Bool) (full : List Event) →
-        LeavesOutGood bound numbers full → LeavesOutGoodOnes bound (thinned numbers full) full }
-{}
-
-/// Leaving out loads and stores invents nothing: whichever are left out of some events, and in
-/// whichever way, the faults of what is left are, in their order, some of those of the events.
-pub fn thinned_events_invent_nothing()
-    ensures thinned { (bound : ℕ) (numbers : ℕ → Bool) (events : List Event) →
-        IsSublist (faults_on bound (thinned_events numbers events)) (faults_on bound events) }
-    ensures each_way { (bound : ℕ) (thin full : List Event) → LeavesOut thin full →
-        IsSublist (faults_on bound thin) (faults_on bound full) }
-{}
-
-/// Leaving out loads and stores of some events that are good where they stand loses nothing: the
-/// faults are the same, in their order, and the reports are the same but for their numbers, to each
-/// of which the count of what was left out before it is added.
-pub fn thinned_events_lose_nothing_bad()
-    ensures faults { (bound : ℕ) (numbers : ℕ → Bool) (events : List Event) →
-        EventsLeftOutAreGood bound numbers events →
-        faults_on bound (thinned_events numbers events) ≡ faults_on bound events }
-    ensures numbered { (bound : ℕ) (numbers : ℕ → Bool) (events : List Event) →
-        EventsLeftOutAreGood bound numbers events →
-        verdicts bound events
-        ≡ map (renumbered numbers (reverse events))
-        (verdicts bound (thinned_events numbers events)) }
-    ensures each_way { (bound : ℕ) (thin full : List Event) →
-        LeavesOutGoodOnes bound (reverse thin) (reverse full) →
-        faults_on bound thin ≡ faults_on bound full }
+    ensures { (bound : ℕ) (thin full : List Event) → LeavesOut thin full →
+        IsSublist (faults_of bound thin) (faults_of bound full) }
 {}

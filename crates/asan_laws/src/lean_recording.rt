@@ -17,15 +17,16 @@ ghost use Rattle.shadow_map.specs.Granules.{block_byte, front_of};
 ghost use Rattle.heap_book.specs.Spans.{Extent, IsPlaced, span_bytes, meets, held_of, starts_at};
 ghost use Rattle.asan_units.specs.Units.{first_byte, granule_size};
 ghost use Rattle.asan_check.specs.declared.report.Fault.{Fault};
+ghost use Rattle.asan_check.specs.declared.report.Report.{Report};
 ghost use Rattle.asan_check.specs.Codes.{code_of_kind};
 ghost use Rattle.asan_check.specs.History.{block_of, live, held, admits};
-ghost use Rattle.asan_check.specs.Verdicts.{fault_of, is_access, verdicts};
+ghost use Rattle.asan_check.specs.Verdicts.{fault_of, is_access, verdicts, verdicts_of};
 ghost use Rattle.asan_laws.specs.Thinning.{faults_of, faults_on};
 ghost use Rattle.asan_laws.specs.Snapshots.{is_shade, NoneShares, LiesInSpan, LiesInBytes};
-ghost use Rattle.asan_laws.specs.Recording.{HaveSameBlocks, IsSameAt, Records};
-ghost use Rattle.asan_laws.specs.Recording.{HasNumber, IsBefore, IsReportedOfOne};
-ghost use Rattle.asan_laws.specs.Recording.{IsSameButForClass, without_class, is_of_block};
-ghost use Rattle.asan_laws.specs.Recording.{Detail, shadow_bytes, addressable_bytes};
+ghost use Rattle.asan_laws.specs.Recording.{HaveSameBlocks, IsSameAt, Records, numbers_in_both};
+ghost use Rattle.asan_laws.specs.Recording.{HasNumber, IsBefore, FindAllBytes, IsReportedOfOne};
+ghost use Rattle.asan_laws.specs.Recording.{IsSameInDetail, without_class, is_of_block};
+ghost use Rattle.asan_laws.specs.Recording.{Detail, shadow_bytes};
 ghost use Rattle.asan_laws.specs.Runs.{Step, Does, events_of, live_in, held_in, shadow_in};
 ghost use Rattle.asan_laws.specs.Runs.{fault_in, faults_in, verdicts_in};
 ghost use Rattle.asan_laws.specs.Runs.{since_malloc_in, since_free_in};
@@ -33,6 +34,7 @@ ghost use Rattle.asan_laws.specs.Runs.{with_quarantine, IsShownIn};
 ghost use Rattle.asan_laws.specs.LeanRecording.{EachHeldFits, FindsInRun, IsAsInRun};
 ghost use Rattle.asan_laws.specs.LeanRecording.{AreReportedInRun};
 ghost use Rattle.asan_laws.specs.LeanRecording.{RecordsLeanly, lean_numbers, RecordsInSegments};
+ghost use Rattle.asan_laws.specs.LeanRecording.{segment_numbers};
 ghost use Rattle.asan_laws.specs.LeanRecording.{FindsItsBlock, shadow_after, freed_byte};
 ghost use Rattle.asan_laws.specs.LeanRecording.{released_byte, shaded_byte, IsShown};
 ghost use Rattle.asan_laws.specs.LeanRecording.{IsShownForAccess};
@@ -40,57 +42,69 @@ ghost use Rattle.asan_laws.specs.LeanRecording.{IsShownForAccess};
 /// What is wrong in a lean recording is what is wrong in the run: the same faults in the same
 /// order, and each report on the same event, whenever the run releases its blocks. The recording
 /// may begin at any time, with any events. If it begins with the run, all reports are the same but
-/// for numbers. If what is recorded finds only as many addressable bytes as in the run, they are
-/// the same but for classes and shadow bytes.
+/// for numbers. A report on an access that finds only as many addressable bytes as in the run is
+/// the same but for its class and shadow byte, and all others stay the same.
 pub fn a_lean_recording_has_the_faults_of_the_run()
     ensures faults { (bound : ℕ) (first : List Event) (past : List Step) (recorded : List Event)
         (run : List Step) →
-        RecordsLeanly bound shadow_bytes first past recorded run →
+        (way : RecordsLeanly bound first past recorded run) → FindAllBytes (lean_numbers way) →
         (added : List Fault)
         × (faults_of bound recorded ≡ faults_of bound first ++ added)
         × (faults_in run ≡ faults_in past ++ added) }
     ensures reports { (bound : ℕ) (first : List Event) (past : List Step) (recorded : List Event)
         (run : List Step) →
-        (way : RecordsLeanly bound shadow_bytes first past recorded run) →
-        AreReportedInRun bound (lean_numbers way) ◌≡◌ first past recorded run }
-    ensures whole { (bound : ℕ) (recorded : List Event) (run : List Step)
-        (way : RecordsLeanly bound shadow_bytes [] [] (reverse recorded) (reverse run)) →
-        (faults_on bound recorded ≡ faults_in (reverse run))
-        × AllZip (IsReportedOfOne (lean_numbers way) ◌≡◌)
-        (verdicts bound recorded) (verdicts_in (reverse run)) }
+        (way : RecordsLeanly bound first past recorded run) →
+        AreReportedInRun bound (lean_numbers way) IsSameInDetail first past recorded run }
     ensures classes { (bound : ℕ) (first : List Event) (past : List Step) (recorded : List Event)
         (run : List Step) →
-        (way : RecordsLeanly bound addressable_bytes first past recorded run) →
-        AreReportedInRun bound (lean_numbers way) IsSameButForClass first past recorded run }
+        RecordsLeanly bound first past recorded run →
+        (added : List Fault)
+        × (map without_class (faults_of bound recorded)
+        ≡ map without_class (faults_of bound first) ++ added)
+        × (map without_class (faults_in run) ≡ map without_class (faults_in past) ++ added) }
+    ensures whole { (bound : ℕ) (recorded : List Event) (run : List Step)
+        (way : RecordsLeanly bound [] [] (reverse recorded) (reverse run)) →
+        (FindAllBytes (lean_numbers way) → faults_on bound recorded ≡ faults_in (reverse run))
+        × AllZip (IsReportedOfOne (lean_numbers way) IsSameInDetail)
+        (verdicts bound recorded) (verdicts_in (reverse run)) }
 {}
 
 /// Each event that a lean recording has in common with its run stands in both, by its number in
 /// each. These pairs of numbers rise together: what comes later in the recording comes later in the
 /// run.
 pub fn what_is_recorded_leanly_has_a_number_in_both()
-    ensures event { (bound : ℕ) (detail : Detail) (first : List Event) (past : List Step)
+    ensures event { (bound : ℕ) (first : List Event) (past : List Step)
         (recorded : List Event) (run : List Step)
-        (way : RecordsLeanly bound detail first past recorded run) (in_recording in_run : ℕ) →
-        Contains (lean_numbers way) (in_recording, in_run) → (event : Event)
+        (way : RecordsLeanly bound first past recorded run)
+        (in_recording in_run : ℕ) (detail : Detail) →
+        Contains (lean_numbers way) (in_recording, in_run, detail) → (event : Event)
         × HasNumber recorded event in_recording × HasNumber (events_of run) event in_run }
-    ensures order { (bound : ℕ) (detail : Detail) (first : List Event) (past : List Step)
+    ensures order { (bound : ℕ) (first : List Event) (past : List Step)
         (recorded : List Event) (run : List Step)
-        (way : RecordsLeanly bound detail first past recorded run) →
+        (way : RecordsLeanly bound first past recorded run) →
         AllPairs IsBefore (lean_numbers way) }
 {}
 
 /// What is wrong in a run is what was wrong in its past when its first segment began, and then what
-/// is wrong in its segments, one after the other. Each begins with an empty book, or with any
-/// events in which nothing is wrong. If what is recorded finds only as many addressable bytes, it
-/// is the same but for classes and shadow bytes.
+/// is wrong in its segments, one after the other, and each report is on the same event. Each begins
+/// with an empty book, or with any events in which nothing is wrong. A report on an access that
+/// finds only as many addressable bytes as in the run is the same but for its class and shadow
+/// byte, and all others stay the same.
 pub fn lean_segments_have_the_faults_of_the_run()
     ensures faults { (bound : ℕ) (past : List Step) (segments : List (List Event))
         (run : List Step) →
-        RecordsInSegments bound shadow_bytes past segments run →
+        (way : RecordsInSegments bound past segments run) →
+        FindAllBytes (segment_numbers way) →
         faults_in run ≡ faults_in past ++ flat_map (faults_of bound) segments }
+    ensures reports { (bound : ℕ) (past : List Step) (segments : List (List Event))
+        (run : List Step) →
+        (way : RecordsInSegments bound past segments run) →
+        (added : List Report) × (verdicts_in run ≡ verdicts_in past ++ added)
+        × AllZip (IsReportedOfOne (segment_numbers way) IsSameInDetail)
+        (flat_map (verdicts_of bound) segments) added }
     ensures classes { (bound : ℕ) (past : List Step) (segments : List (List Event))
         (run : List Step) →
-        RecordsInSegments bound addressable_bytes past segments run →
+        RecordsInSegments bound past segments run →
         map without_class (faults_in run)
         ≡ map without_class (faults_in past)
         ++ map without_class (flat_map (faults_of bound) segments) }
@@ -103,18 +117,20 @@ pub fn each_event_can_be_recorded_in_a_new_segment()
     ensures { (bound : ℕ) (run : List Step) → EachHeldFits bound run →
         (e : Event) → is_shade e ≡ false →
         (stated : List Event)
-        × RecordsLeanly bound shadow_bytes [] run (e ∷ stated) (Does e ∷ run) }
+        × (way : RecordsLeanly bound [] run (e ∷ stated) (Does e ∷ run))
+        × FindAllBytes (lean_numbers way) }
 {}
 
 /// A recording with each malloc and free is a lean one too, of the run with one quarantine, if it
-/// has the same blocks as the run when it begins. So a process may go over from full to lean
-/// recording at any time, and back at a new segment that begins with the blocks of the run.
+/// has the same blocks as the run when it begins, and with the same numbers. So a process may go
+/// over from full to lean recording at any time, and back at a new segment that begins with the
+/// blocks of the run.
 pub fn a_full_recording_is_a_lean_one()
-    ensures { (bound : ℕ) (detail : Detail) (first past recorded run : List Event) →
+    ensures { (bound : ℕ) (first past recorded run : List Event) →
         HaveSameBlocks bound first past →
-        Records bound detail first past recorded run →
-        RecordsLeanly bound detail first (with_quarantine bound past) recorded
-        (with_quarantine bound run) }
+        (way : Records bound first past recorded run) →
+        (leanly : RecordsLeanly bound first (with_quarantine bound past) recorded
+        (with_quarantine bound run)) × (lean_numbers leanly ≡ numbers_in_both way) }
 {}
 
 /// What a recorder has to note to know the book of its recording. A malloc that is put in adds its

@@ -9,15 +9,12 @@ mod recording;
 mod runs;
 
 pub use laws::{
-    accesses_leave_no_trace, an_access_twice_gives_its_fault_twice,
-    blocks_meet_where_spans_share_a_byte, each_event_has_its_verdict,
-    each_way_to_leave_out_is_a_test_of_numbers, held_since_its_free, later_faults_are_the_same,
-    later_reports_are_the_same, live_since_its_malloc, marks_are_only_added,
+    accesses_leave_no_trace, blocks_meet_where_spans_share_a_byte, each_event_has_its_verdict,
+    held_since_its_free, later_reports_are_the_same, live_since_its_malloc, marks_are_only_added,
     marks_of_a_history_are_marks, overflow_is_reported, poison_is_reported,
     quiet_inside_live_block, reports_are_verdicts, spans_never_meet, the_class_of_a_report_is_true,
-    the_same_is_left_again, the_same_stands_again, thinned_events_invent_nothing,
-    thinned_events_lose_nothing_bad, thinning_invents_nothing, thinning_loses_nothing_bad,
-    use_after_free_is_reported, what_is_in_a_snapshot_stands_the_same,
+    the_same_stands_again, thinning_invents_nothing, use_after_free_is_reported,
+    what_is_in_a_snapshot_stands_the_same,
 };
 pub use lean_recording::{
     a_free_looks_at_its_address, a_full_recording_is_a_lean_one,
@@ -29,7 +26,6 @@ pub use lean_recording::{
 };
 pub use recording::{
     a_recording_has_the_faults_of_the_run, a_segment_begins_with_the_blocks_of_the_run,
-    a_segment_has_the_faults_of_the_run_but_for_classes,
     a_segment_may_leave_out_the_oldest_held_blocks, an_access_is_as_bad_but_for_its_class,
     an_access_looks_at_two_granules, what_is_recorded_has_a_number_in_both,
 };

@@ -16,10 +16,9 @@ ghost use Rattle.asan_laws.specs.Thinning.{faults_of, faults_on};
 ghost use Rattle.asan_laws.specs.Snapshots.{IsSnapshot};
 ghost use Rattle.asan_laws.specs.Recording.{HaveBlocksBut, HaveSameBlocks, IsSameAt, FindsTheSame};
 ghost use Rattle.asan_laws.specs.Recording.{FindsAsMany, Records, numbers_in_both, IsBefore};
-ghost use Rattle.asan_laws.specs.Recording.{HasNumber, without_class, IsSameButForClass};
-ghost use Rattle.asan_laws.specs.Recording.{IsSameButForCut, IsReportedOfOne, AreReportedAlike};
-ghost use Rattle.asan_laws.specs.Recording.{IsSnapshotBut, NoMallocMeets, Detail};
-ghost use Rattle.asan_laws.specs.Recording.{shadow_bytes, addressable_bytes};
+ghost use Rattle.asan_laws.specs.Recording.{HasNumber, FindAllBytes, without_class};
+ghost use Rattle.asan_laws.specs.Recording.{IsSameInDetail, IsSameButForCut, IsReportedOfOne};
+ghost use Rattle.asan_laws.specs.Recording.{AreReportedAlike, IsSnapshotBut, NoMallocMeets, Detail};
 
 /// What is wrong with a load or a store depends on the shadow bytes of two granules alone: that of
 /// its first byte and the next one. The second plays a part only if the access is bad and says its
@@ -48,33 +47,42 @@ pub fn an_access_is_as_bad_but_for_its_class()
 /// Each event that is recorded stands in the recording and in the run, by its number in each. These
 /// pairs of numbers rise together: what comes later in the recording comes later in the run.
 pub fn what_is_recorded_has_a_number_in_both()
-    ensures event { (bound : ℕ) (detail : Detail) (first past recorded run : List Event)
-        (way : Records bound detail first past recorded run) (in_recording in_run : ℕ) →
-        Contains (numbers_in_both way) (in_recording, in_run) → (event : Event)
+    ensures event { (bound : ℕ) (first past recorded run : List Event)
+        (way : Records bound first past recorded run) (in_recording in_run : ℕ) (detail : Detail) →
+        Contains (numbers_in_both way) (in_recording, in_run, detail) → (event : Event)
         × HasNumber recorded event in_recording × HasNumber run event in_run }
-    ensures order { (bound : ℕ) (detail : Detail) (first past recorded run : List Event)
-        (way : Records bound detail first past recorded run) →
-        AllPairs IsBefore (numbers_in_both way) }
+    ensures order { (bound : ℕ) (first past recorded run : List Event)
+        (way : Records bound first past recorded run) → AllPairs IsBefore (numbers_in_both way) }
 {}
 
 /// What is wrong in a recording is what is wrong in the run: the same faults in the same order, and
 /// each report on the same event. The recording may begin late, with events that leave the blocks
-/// that the run has by then. If it begins with the run, all reports are the same but for numbers.
+/// that the run has by then. If it begins with the run, all reports are the same but for numbers. A
+/// report on an access that finds only as many addressable bytes as in the run is the same but for
+/// its class and shadow byte, and all others stay the same.
 pub fn a_recording_has_the_faults_of_the_run()
     ensures faults { (bound : ℕ) (first past recorded run : List Event) →
         HaveSameBlocks bound first past →
-        Records bound shadow_bytes first past recorded run →
+        (way : Records bound first past recorded run) → FindAllBytes (numbers_in_both way) →
         (added : List Fault)
         × (faults_of bound recorded ≡ faults_of bound first ++ added)
         × (faults_of bound run ≡ faults_of bound past ++ added) }
     ensures reports { (bound : ℕ) (first past recorded run : List Event) →
         HaveSameBlocks bound first past →
-        (way : Records bound shadow_bytes first past recorded run) →
-        AreReportedAlike bound (numbers_in_both way) ◌≡◌ first past recorded run }
+        (way : Records bound first past recorded run) →
+        AreReportedAlike bound (numbers_in_both way) IsSameInDetail first past recorded run }
+    ensures classes { (bound : ℕ) (first past recorded run : List Event) →
+        HaveSameBlocks bound first past →
+        Records bound first past recorded run →
+        (added : List Fault)
+        × (map without_class (faults_of bound recorded)
+        ≡ map without_class (faults_of bound first) ++ added)
+        × (map without_class (faults_of bound run)
+        ≡ map without_class (faults_of bound past) ++ added) }
     ensures whole { (bound : ℕ) (recorded run : List Event)
-        (way : Records bound shadow_bytes [] [] (reverse recorded) (reverse run)) →
-        (faults_on bound recorded ≡ faults_on bound run)
-        × AllZip (IsReportedOfOne (numbers_in_both way) ◌≡◌)
+        (way : Records bound [] [] (reverse recorded) (reverse run)) →
+        (FindAllBytes (numbers_in_both way) → faults_on bound recorded ≡ faults_on bound run)
+        × AllZip (IsReportedOfOne (numbers_in_both way) IsSameInDetail)
         (verdicts bound recorded) (verdicts bound run) }
 {}
 
@@ -90,29 +98,13 @@ pub fn a_segment_begins_with_the_blocks_of_the_run()
         IsSnapshot bound snapshot past → IsSnapshotBut bound [] snapshot past }
 {}
 
-/// What is wrong in a segment is, but for classes and shadow bytes, what is wrong in the run from
-/// there on, where each access that is recorded finds as many addressable bytes as in the run.
-pub fn a_segment_has_the_faults_of_the_run_but_for_classes()
-    ensures faults { (bound : ℕ) (snapshot past recorded run : List Event) →
-        IsSnapshotBut bound [] snapshot past →
-        Records bound addressable_bytes snapshot past recorded run →
-        (added : List Fault)
-        × (map without_class (faults_of bound recorded) ≡ added)
-        × (map without_class (faults_of bound run)
-        ≡ map without_class (faults_of bound past) ++ added) }
-    ensures reports { (bound : ℕ) (snapshot past recorded run : List Event) →
-        IsSnapshotBut bound [] snapshot past →
-        (way : Records bound addressable_bytes snapshot past recorded run) →
-        AreReportedAlike bound (numbers_in_both way) IsSameButForClass snapshot past recorded run }
-{}
-
-/// The same of a segment that leaves out the oldest held blocks, where a second free of one of
-/// these may be a bad free in place of a double free. Until it is released, no malloc of the run
-/// may meet such a block: there it would be bad in the run alone.
+/// A segment that leaves out the oldest held blocks has the reports of the run from there on, where
+/// a second free of one of these may be a bad free in place of a double free. Until it is released,
+/// no malloc of the run may meet such a block: there it would be bad in the run alone.
 pub fn a_segment_may_leave_out_the_oldest_held_blocks()
     ensures { (bound : ℕ) (cut : List Extent) (snapshot past recorded run : List Event) →
         IsSnapshotBut bound cut snapshot past → NoMallocMeets bound cut past run →
-        (way : Records bound addressable_bytes snapshot past recorded run) →
+        (way : Records bound snapshot past recorded run) →
         AreReportedAlike bound (numbers_in_both way) (IsSameButForCut cut)
         snapshot past recorded run }
 {}

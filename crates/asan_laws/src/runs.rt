@@ -10,10 +10,9 @@ ghost use Rattle.trace_record.specs.declared.event.Event.TheVariants as event;
 ghost use Rattle.trace_record.specs.declared.event.Access.{Access};
 ghost use Rattle.trace_record.specs.declared.event.Place.{Place};
 ghost use Rattle.trace_record.specs.declared.event.Region.{Region};
-ghost use Rattle.shadow_map.specs.States.{code_of};
+ghost use Rattle.shadow_map.specs.States.{AreMarks, code_of};
 ghost use Rattle.shadow_map.specs.Granules.{block_byte};
 ghost use Rattle.heap_book.specs.Spans.{Extent, meets, starts_at};
-ghost use Rattle.asan_units.specs.Units.{round_up};
 ghost use Rattle.asan_check.specs.declared.report.Class.TheVariants as class;
 ghost use Rattle.asan_check.specs.declared.report.Fault.TheVariants as fault;
 ghost use Rattle.asan_check.specs.Codes.{Freed};
@@ -22,18 +21,18 @@ ghost use Rattle.asan_check.specs.Verdicts.{fault_of, verdicts_of, is_access};
 ghost use Rattle.asan_laws.specs.Laws.{since_malloc, since_free, NoPoisonShares, NoUnpoisonShares};
 ghost use Rattle.asan_laws.specs.Laws.{StartsWithin, access_event};
 ghost use Rattle.asan_laws.specs.Snapshots.{is_shade};
-ghost use Rattle.asan_laws.specs.Recording.{Detail};
 ghost use Rattle.asan_laws.specs.Runs.{Step, Does, Releases, events_of, live_in, held_in};
 ghost use Rattle.asan_laws.specs.Runs.{admits_in, marks_in, shadow_in};
 ghost use Rattle.asan_laws.specs.Runs.{fault_in, verdicts_in, since_malloc_in, since_free_in};
 ghost use Rattle.asan_laws.specs.Runs.{with_quarantine, without_release};
-ghost use Rattle.asan_laws.specs.LeanRecording.{EachHeldFits, RecordsLeanly, freed_byte};
-ghost use Rattle.asan_laws.specs.LeanRecording.{released_byte, shaded_byte};
+ghost use Rattle.asan_laws.specs.LeanRecording.{EachHeldFits, RecordsLeanly, lean_numbers};
+ghost use Rattle.asan_laws.specs.LeanRecording.{freed_byte, released_byte, shaded_byte};
 
 /// The run that does the events of a history with one quarantine, a queue of `bound` bytes, is as
 /// the history says: it has the same events, blocks and marks, the same is wrong with an event
 /// after it, and the verdicts on it are the same. Each block that it holds fits into the queue. A
-/// lean recording of it as it has done an event is one of it after the releases that follow, too.
+/// lean recording of it as it has done an event is one of it after the releases that follow, too,
+/// with the same numbers.
 pub fn a_run_with_one_quarantine_is_as_its_history()
     ensures events { (bound : ℕ) (past : List Event) →
         events_of (with_quarantine bound past) ≡ past }
@@ -51,15 +50,16 @@ pub fn a_run_with_one_quarantine_is_as_its_history()
         verdicts_in (with_quarantine bound past) ≡ verdicts_of bound past }
     ensures fits { (bound : ℕ) (past : List Event) →
         EachHeldFits bound (with_quarantine bound past) }
-    ensures recorded { (bound : ℕ) (detail : Detail) (first : List Event) (past : List Step)
-        (recorded run : List Event) (e : Event) →
-        RecordsLeanly bound detail first past recorded (Does e ∷ with_quarantine bound run) →
-        RecordsLeanly bound detail first past recorded (with_quarantine bound (e ∷ run)) }
+    ensures recorded { (bound : ℕ) (first : List Event) (past : List Step)
+        (recorded run : List Event) (e : Event)
+        (way : RecordsLeanly bound first past recorded (Does e ∷ with_quarantine bound run)) →
+        (on : RecordsLeanly bound first past recorded (with_quarantine bound (e ∷ run)))
+        × (lean_numbers on ≡ lean_numbers way) }
 {}
 
 /// What a run says of a block that it holds: a second free of it is a double free, its memory is
 /// not handed out again, and an access that starts at its bytes is a use after free, as long as no
-/// poison and no unpoison since its free shares a granule with them.
+/// poison and no unpoison since its free shares a granule with the access's first byte.
 pub fn a_run_reports_what_comes_to_a_held_block()
     ensures double_free { (run : List Step) (block : Extent) (p : Place) →
         Contains (held_in run) block → p.at ≡ block.at →
@@ -70,15 +70,16 @@ pub fn a_run_reports_what_comes_to_a_held_block()
     ensures use_after_free { (run : List Step) (block : Extent) (is_store : Bool)
         (access : Access) →
         Contains (held_in run) block → StartsWithin block access →
-        NoPoisonShares (since_free_in run block) block.at (block.at + round_up block.size) →
-        NoUnpoisonShares (since_free_in run block) block.at (block.at + round_up block.size) →
+        NoPoisonShares (since_free_in run block) access.at (access.at + 1) →
+        NoUnpoisonShares (since_free_in run block) access.at (access.at + 1) →
         fault_in run (access_event is_store access)
         ≡ Some (fault.Access is_store access.width access.at access.at class.HeapUseAfterFree
         (code_of Freed)) }
 {}
 
 /// What each step of a run makes of a granule's shadow byte. So a recorder whose own shadow does as
-/// these say has the run's.
+/// these say has the run's. The marks of a run are such as calls may make, so that its shadow bytes
+/// say what those of a history do.
 pub fn a_shadow_can_follow_a_run()
     ensures malloc { (run : List Step) (r : Region) (granule : ℕ) →
         IsTrue (admits_in run (block_of r)) →
@@ -104,6 +105,7 @@ pub fn a_shadow_can_follow_a_run()
     ensures none_released { (run : List Step) (at granule : ℕ) →
         list_any (starts_at at) (held_in run) ≡ false →
         shadow_in (Releases at ∷ run) granule ≡ shadow_in run granule }
+    ensures marks { (run : List Step) → AreMarks (marks_in run) }
 {}
 
 /// A run that releases nothing holds each block that it ever freed, so all of that is reported of

@@ -522,3 +522,22 @@ fn refused_arguments(rt: HostRuntime) {
         expect_eq(&rt, *event, Err(*flaw));
     }
 }
+
+#[test]
+fn texts_of_flaws(rt: HostRuntime) -> Result<(), Fail> {
+    for (flaw, wanted) in [
+        (Flaw::Header, "the first eight bytes are not the header"),
+        (Flaw::Code, "a record begins with an unknown code"),
+        (Flaw::Width, "the width of an access is not 1, 2, 4 or 8"),
+        (
+            Flaw::Size,
+            "a region has more bytes than the version allows",
+        ),
+        (Flaw::Range, "a record reaches past the last address"),
+        (Flaw::Kind, "the kind of a poison is none of 0, 1 and 2"),
+    ] {
+        let text = format!(in rt.alloc(); "{flaw}")?;
+        expect_eq(&rt, text.as_str(), wanted);
+    }
+    Ok(())
+}

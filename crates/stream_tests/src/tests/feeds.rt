@@ -146,6 +146,21 @@ fn refused_options(rt: HostRuntime) {
     }
 }
 
+#[test]
+fn texts_of_refused_options(rt: HostRuntime) -> Result<(), Fail> {
+    for (bad, wanted) in [
+        (BadOption::Quarantine, "the quarantine is over 2^40 bytes"),
+        (BadOption::Ring, "the ring is not of 1 to 65,536 items"),
+        (BadOption::Workers, "the workers are not 1 to 64"),
+        (BadOption::Limit, "the event limit is not 1 to 2^24"),
+        (BadOption::Memory, "the memory is not 2^20 to 2^40 bytes"),
+    ] {
+        let text = format!(in rt.alloc(); "{bad}")?;
+        expect_eq(&rt, text.as_str(), wanted);
+    }
+    Ok(())
+}
+
 /// A feed that counts its reads.
 #[derive(Drop)]
 struct Counted {

@@ -1,3 +1,4 @@
+use Rattle.asan_laws.proofs.RunBlocks.{are_marks_in}
 use Rattle.asan_laws.proofs.RunShown.{malloc_makes, free_makes, release_makes, shade_makes, access_makes}
 use Rattle.asan_laws.proofs.RunShown.{refused_makes, bad_free_makes, none_released_makes}
 use Rattle.asan_laws.proofs.runs.a_shadow_can_follow_a_run.Goals as goal
@@ -25,3 +26,6 @@ returns-clause-bad_free c = bad_free_makes
 
 pub returns-clause-none_released : goal.returns-clause-none_released
 returns-clause-none_released c = none_released_makes
+
+pub returns-clause-marks : goal.returns-clause-marks
+returns-clause-marks c = are_marks_in

@@ -1,0 +1,13 @@
+mod Laws
+mod Lists
+mod Granules
+mod Mallocs
+mod Frees
+mod Held
+mod Shades
+mod Plans
+mod SameBook
+mod Known
+mod Accesses
+mod Stated
+mod Releases
