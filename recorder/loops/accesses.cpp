@@ -1,11 +1,16 @@
+/* A loop is read into struct tested_loop: each access becomes a `range`, or is joined to one near it, by LLVM's
+   expressions for what changes from round to round (SCEV). */
 #include "loops/accesses.hpp"
 
 #include <llvm/Analysis/ScalarEvolutionExpressions.h>
 #include <llvm/Config/llvm-config.h>
 #include <llvm/IR/DataLayout.h>
+#include <llvm/IR/InstIterator.h>
 #include <llvm/IR/IntrinsicInst.h>
 #include <llvm/IR/Module.h>
 #include <llvm/Transforms/Utils/ScalarEvolutionExpander.h>
+
+#include "interface/loops.h"
 
 using namespace llvm;
 
@@ -24,6 +29,13 @@ const uint64_t BYTES_OF_ACCESS = 64;
 const uint64_t MOST_COPIED = 256;
 /* A larger loop takes more time than its checks. */
 const unsigned MOST_INSTRUCTIONS = 1000;
+
+/* What code takes, on average over image and compression libraries: an access with its check, any other instruction,
+   one of a fast loop, which may become vectors and a scalar rest, and a call of a test. */
+const uint64_t BYTES_OF_CHECK = 90;
+const uint64_t BYTES_OF_INSTRUCTION = 5;
+const uint64_t BYTES_OF_FAST = 10;
+const uint64_t BYTES_OF_TEST = 50;
 
 /* A load or a store that AddressSanitizer's pass gives a check. */
 bool has_check(Instruction &instruction)
@@ -214,20 +226,55 @@ void access_reader::add(tested_loop &it, range &found) const
 /* Of a nest all accesses have to be known, since its rounds are many; of another loop half of them. */
 bool access_reader::read_accesses(tested_loop &it) const
 {
-    unsigned all = 0, known = 0;
+    it.checks = it.known = 0;
     for (BasicBlock *block : it.loop->blocks()) {
         for (Instruction &instruction : *block) {
             range found;
             if (!has_check(instruction))
                 continue;
-            all++;
+            it.checks++;
             if (!place(&instruction, it, found))
                 continue;
-            known++;
+            it.known++;
             add(it, found);
         }
     }
-    return known != 0 && (it.inner.empty() ? 2 * known >= all : known == all) && it.ranges.size() <= MOST_RANGES;
+    bool is_enough = it.inner.empty() ? 2 * it.known >= it.checks : it.known == it.checks;
+    return it.known != 0 && is_enough && it.ranges.size() <= MOST_RANGES;
+}
+
+/* A constant number of instructions that is sure to be one strip. */
+bool access_reader::is_surely_one_strip(const tested_loop &it) const
+{
+    uint64_t in_round = it.instructions;
+    const auto *last = dyn_cast<SCEVConstant>(it.last);
+    if (last == nullptr || last->getAPInt().ugt(STRIP_ALONE))
+        return false;
+    for (const inner_loop &inner : it.inner) {
+        const auto *inner_last = dyn_cast<SCEVConstant>(inner.last);
+        if (inner_last == nullptr || inner_last->getAPInt().ugt(STRIP_ALONE))
+            return false;
+        in_round += (inner_last->getAPInt().getZExtValue() + 1) * inner.instructions;
+    }
+    return (last->getAPInt().getZExtValue() + 1) * in_round <= STRIP_ALONE;
+}
+
+uint64_t code_of(Function &function)
+{
+    uint64_t bytes = 0;
+    for (Instruction &instruction : instructions(function))
+        bytes += has_check(instruction) ? BYTES_OF_CHECK : instruction.isDebugOrPseudoInst() ? 0 : BYTES_OF_INSTRUCTION;
+    return bytes;
+}
+
+uint64_t added_code(const tested_loop &it)
+{
+    uint64_t in_copy = it.instructions, tests = it.ranges.size();
+    for (const inner_loop &inner : it.inner)
+        in_copy += inner.instructions;
+    uint64_t fast = in_copy * BYTES_OF_FAST + (it.checks - it.known) * BYTES_OF_CHECK;
+    uint64_t rest = in_copy * BYTES_OF_INSTRUCTION + it.checks * BYTES_OF_CHECK + (tests + 1) * BYTES_OF_TEST;
+    return fast + (tests + 1) * BYTES_OF_TEST + (it.has_one_strip ? 0 : rest);
 }
 
 bool access_reader::read(Loop *loop, tested_loop &it)
@@ -240,6 +287,7 @@ bool access_reader::read(Loop *loop, tested_loop &it)
     if (it.last == nullptr || it.instructions == 0 || it.instructions > MOST_INSTRUCTIONS
         || !read_end(loop, it.last, it) || !read_inner(it) || !read_accesses(it))
         return false;
+    it.has_one_strip = is_surely_one_strip(it);
     if (!it.inner.empty())
         return true;
     for (const range &each : it.ranges)

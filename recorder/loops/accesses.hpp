@@ -1,4 +1,7 @@
-/* What a loop accesses, so far as it is known before its first round. */
+/* What a loop accesses, so far as it is known before its first round.
+
+   Called: by versions.cpp and passes.cpp, in the compiler's one thread, without a lock: it reads LLVM's code, and adds
+   what LLVM needs for it (SCEV). */
 #ifndef ASANCOL_LOOPS_ACCESSES_HPP
 #define ASANCOL_LOOPS_ACCESSES_HPP
 
@@ -33,7 +36,16 @@ struct tested_loop {
     /* Each has to be 0, or one of the loops does not end with the last of its rounds. */
     llvm::SmallVector<const llvm::SCEV *, 2> zeros;
     unsigned instructions; /* of a round, without inner loops */
+    unsigned checks, known; /* accesses, inner loops included; and those that the test is for */
+    /* It runs without checks as a whole or not at all, and thus needs no copy for what is left after a bad strip. */
+    bool has_one_strip;
 };
+
+/* About how many bytes of code a function has once its accesses are checked. */
+uint64_t code_of(llvm::Function &function);
+
+/* About how many a test of a loop and its copies add. */
+uint64_t added_code(const tested_loop &it);
 
 class access_reader
 {
@@ -60,6 +72,7 @@ class access_reader
     bool place(llvm::Instruction *access, tested_loop &it, range &found) const;
     void add(tested_loop &it, range &found) const;
     bool read_accesses(tested_loop &it) const;
+    bool is_surely_one_strip(const tested_loop &it) const;
 };
 
 #endif

@@ -18,6 +18,10 @@
 #include "loops/plugin.h"
 #include "loops/versions.hpp"
 
+#include <algorithm>
+#include <memory>
+#include <vector>
+
 using namespace llvm;
 
 namespace
@@ -64,54 +68,125 @@ bool has_group(const Instruction &instruction, const MDNode *group)
     return is_contained(of->operands(), group);
 }
 
-/* Makes the copies, of a nest from outside: the rest of it is examined loop by loop. */
+/* How much code copies of loops may add: a part of each function's, and what functions before it have left. So a
+   module grows by no more, except that of a small one the first loops are made in any case. */
+class budget
+{
+  public:
+    explicit budget(bool has_limit) : has_limit(has_limit)
+    {
+    }
+    void enter(Function &function)
+    {
+        if (module != function.getParent())
+            left = LEAST;
+        module = function.getParent();
+        left += code_of(function) * PERCENT / 100;
+    }
+    bool take(uint64_t bytes)
+    {
+        if (!has_limit)
+            return true;
+        if (bytes > left)
+            return false;
+        left -= bytes;
+        return true;
+    }
+
+    const bool has_limit;
+
+  private:
+    static const uint64_t LEAST = 2000, PERCENT = 3;
+    const Module *module = nullptr;
+    uint64_t left = 0;
+};
+
+/* A loop that can be tested as a whole. */
+struct candidate {
+    Loop *loop;
+    unsigned depth;
+    uint64_t added;
+};
+
+/* Makes the copies, of a nest as a whole if that can be: its loops are candidates otherwise. Those deep in nests come
+   first, and then small ones. */
 class version_loops : public PassInfoMixin<version_loops>
 {
   public:
-    explicit version_loops(mark how) : how(how)
+    version_loops(mark how, bool has_limit) : how(how), allowed(std::make_shared<budget>(has_limit))
     {
     }
     PreservedAnalyses run(Function &function, FunctionAnalysisManager &manager);
 
   private:
     mark how;
+    std::shared_ptr<budget> allowed;
 
-    bool visit(const analyses &of, Loop *loop);
+    static void find(access_reader &reader, Loop *loop, std::vector<candidate> &found);
+    bool make(const analyses &of, Loop *loop);
 };
 
-bool version_loops::visit(const analyses &of, Loop *loop)
+void version_loops::find(access_reader &reader, Loop *loop, std::vector<candidate> &found)
 {
-    bool is_made = false, has_only_innermost = true;
-    SmallVector<Loop *, 4> inner(loop->begin(), loop->end());
-    for (const Loop *it : inner)
-        has_only_innermost &= it->isInnermost();
+    bool has_only_innermost = true;
+    for (const Loop *inner : *loop)
+        has_only_innermost &= inner->isInnermost();
     tested_loop tested;
-    if (has_only_innermost && access_reader(of.function, of.loops, of.tree, of.evolution).read(loop, tested)) {
-        make_versions(of, tested, how == mark::GROUP ? add_to_group : mark_unchecked);
-        is_made = true;
+    if (has_only_innermost && reader.read(loop, tested)) {
+        found.push_back({loop, loop->getLoopDepth() + !tested.inner.empty(), added_code(tested)});
+        return;
     }
-    for (Loop *it : inner)
-        is_made |= visit(of, it);
+    for (Loop *inner : *loop)
+        find(reader, inner, found);
+}
+
+/* The facts read of a loop may not hold any more once another loop was copied. If there is no room for a copy of the
+   rest after a bad strip, the loop gets one strip. The loops of a nest get copies if the nest gets none, or without a
+   limit. */
+bool version_loops::make(const analyses &of, Loop *loop)
+{
+    tested_loop tested;
+    if (!access_reader(of.function, of.loops, of.tree, of.evolution).read(loop, tested))
+        return false;
+    bool is_made = allowed->take(added_code(tested));
+    if (!is_made && tested.inner.empty()) {
+        tested.has_one_strip = true;
+        is_made = allowed->take(added_code(tested));
+    }
+    if (is_made)
+        make_versions(of, tested, how == mark::GROUP ? add_to_group : mark_unchecked);
+    if (!is_made || !allowed->has_limit)
+        for (const inner_loop &inner : tested.inner)
+            is_made |= make(of, inner.loop);
     return is_made;
 }
 
 PreservedAnalyses version_loops::run(Function &function, FunctionAnalysisManager &manager)
 {
+    if (!function.hasFnAttribute(Attribute::SanitizeAddress))
+        return PreservedAnalyses::all();
+    allowed->enter(function);
     LoopInfo &loops = manager.getResult<LoopAnalysis>(function);
-    if (!function.hasFnAttribute(Attribute::SanitizeAddress) || function.hasOptNone() || function.hasOptSize()
-        || loops.empty())
+    if (function.hasOptNone() || function.hasOptSize() || function.hasFnAttribute(Attribute::Cold) || loops.empty())
         return PreservedAnalyses::all();
     const analyses of = {function, loops, manager.getResult<DominatorTreeAnalysis>(function),
                          manager.getResult<ScalarEvolutionAnalysis>(function)};
     AssumptionCache &assumptions = manager.getResult<AssumptionAnalysis>(function);
     SmallVector<Loop *, 8> outermost(loops.begin(), loops.end());
+    std::vector<candidate> found;
+    access_reader reader(function, loops, of.tree, of.evolution);
     bool is_made = false;
     for (Loop *loop : outermost) {
         is_made |= simplifyLoop(loop, &of.tree, &loops, &of.evolution, &assumptions, nullptr, false);
         is_made |= formLCSSARecursively(*loop, of.tree, &loops, &of.evolution);
     }
     for (Loop *loop : outermost)
-        is_made |= visit(of, loop);
+        find(reader, loop, found);
+    std::stable_sort(found.begin(), found.end(), [](const candidate &one, const candidate &other) {
+        return one.depth != other.depth ? one.depth > other.depth : one.added < other.added;
+    });
+    for (const candidate &each : found)
+        is_made |= make(of, each.loop);
     return is_made ? PreservedAnalyses::none() : PreservedAnalyses::all();
 }
 
@@ -137,34 +212,34 @@ bool checks_come_early()
     return found != cl::getRegisteredOptions().end() && static_cast<cl::opt<bool> *>(found->second)->getValue();
 }
 
-void add_passes(PassBuilder &builder)
+void add_passes(PassBuilder &builder, bool has_limit)
 {
     auto is_vectorized = std::make_shared<bool>(false);
     bool is_early = checks_come_early();
 #if LLVM_VERSION_MAJOR >= 15
     if (is_early)
-        builder.registerOptimizerEarlyEPCallback([](ModulePassManager &passes, auto level, auto...) {
+        builder.registerOptimizerEarlyEPCallback([has_limit](ModulePassManager &passes, auto level, auto...) {
             if (level.getSpeedupLevel() != 0)
-                passes.addPass(createModuleToFunctionPassAdaptor(version_loops(mark::UNCHECKED)));
+                passes.addPass(createModuleToFunctionPassAdaptor(version_loops(mark::UNCHECKED, has_limit)));
         });
 #endif
     if (is_early)
         return;
-    builder.registerVectorizerStartEPCallback([is_vectorized](FunctionPassManager &passes, auto) {
-        passes.addPass(version_loops(mark::GROUP));
+    builder.registerVectorizerStartEPCallback([is_vectorized, has_limit](FunctionPassManager &passes, auto) {
+        passes.addPass(version_loops(mark::GROUP, has_limit));
         *is_vectorized = true;
     });
     /* Code vectorized only at the link, as with -flto=thin, has its checks by then. */
-    builder.registerOptimizerLastEPCallback([is_vectorized](ModulePassManager &passes, auto level, auto...) {
+    builder.registerOptimizerLastEPCallback([is_vectorized, has_limit](ModulePassManager &passes, auto level, auto...) {
         if (*is_vectorized)
             passes.addPass(turn_marks());
         else if (level.getSpeedupLevel() != 0)
-            passes.addPass(createModuleToFunctionPassAdaptor(version_loops(mark::UNCHECKED)));
+            passes.addPass(createModuleToFunctionPassAdaptor(version_loops(mark::UNCHECKED, has_limit)));
     });
 }
 } // namespace
 
-extern "C" void asancol_add_loops(void *builder)
+extern "C" void asancol_add_loops(void *builder, bool has_limit)
 {
-    add_passes(*static_cast<PassBuilder *>(builder));
+    add_passes(*static_cast<PassBuilder *>(builder), has_limit);
 }

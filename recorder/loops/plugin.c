@@ -6,6 +6,7 @@
 
 #include <dlfcn.h>
 #include <limits.h>
+#include <stdbool.h>
 #include <stdint.h>
 #include <stdio.h>
 #include <string.h>
@@ -21,6 +22,10 @@ __attribute__((visibility("default"))) struct plugin llvmGetPassPluginInfo(void)
 
 enum { OLDEST = 13, NEWEST = 40 };
 
+#ifndef HAS_LIMIT
+#define HAS_LIMIT true
+#endif
+
 /* The major version of LLVM, by the version of its symbols; or 0. */
 static unsigned version_of_llvm(void)
 {
@@ -35,6 +40,7 @@ static unsigned version_of_llvm(void)
     return 0;
 }
 
+/* Loads the passes beside this file that fit the LLVM in the process, and gives them its builder of passes. */
 static void add(void *builder)
 {
     char path[PATH_MAX];
@@ -46,11 +52,11 @@ static void add(void *builder)
     int folder = end == NULL ? 0 : (int)(end - self.dli_fname) + 1;
     snprintf(path, sizeof path, "%.*s" LOOPS_FILE_OF, folder, self.dli_fname, major);
     void *passes = dlopen(path, RTLD_NOW | RTLD_LOCAL);
-    void (*add_loops)(void *) = NULL;
+    void (*add_loops)(void *, bool has_limit) = NULL;
     if (passes != NULL)
         *(void **)&add_loops = dlsym(passes, ADD_LOOPS_NAME);
     if (add_loops != NULL)
-        add_loops(builder);
+        add_loops(builder, HAS_LIMIT);
 }
 
 struct plugin llvmGetPassPluginInfo(void)

@@ -10,7 +10,7 @@
        rest -> loop -> left of rest -> exit
    Both the fast loop and the rest are copies. The loop itself begins as it did, and is compiled as it would be alone,
    so that its reports are the same. The rest is only for what another thread, or a signal handler, makes bad meanwhile.
-   If the number of rounds is a small constant there is one strip: `first` leads to `good`, and `done` to the exit. */
+   If there is to be one strip, `first` leads to `good`, and `done` to the exit: the test says no to a longer loop. */
 #include "loops/versions.hpp"
 
 #include <llvm/Analysis/ScalarEvolutionExpressions.h>
@@ -63,7 +63,6 @@ class versioning
     /* The copies of the loop, and what they have for each value of it. */
     ValueToValueMapTy copies, copies_of_rest;
     Loop *fast = nullptr, *rest_loop = nullptr;
-    bool has_one_strip = false;
     BasicBlock *before = nullptr, *checked = nullptr, *first = nullptr, *strip = nullptr, *good = nullptr,
                *done = nullptr, *again = nullptr, *rest = nullptr, *left = nullptr, *left_of_rest = nullptr,
                *exit = nullptr;
@@ -87,7 +86,6 @@ class versioning
         return expander.expandCodeFor(value, type, before->getTerminator());
     }
     void require(IRBuilder<> &builder, Value *condition);
-    void find_strips();
     void count_work(IRBuilder<> &builder);
     void add_range(IRBuilder<> &builder, const range &each);
     void compute_before();
@@ -122,21 +120,6 @@ BasicBlock *versioning::make_block(const char *name, BasicBlock *next)
 void versioning::require(IRBuilder<> &builder, Value *condition)
 {
     is_fit = is_fit == nullptr ? condition : builder.CreateAnd(is_fit, condition);
-}
-
-/* A constant number of instructions that is sure to be one strip. */
-void versioning::find_strips()
-{
-    uint64_t in_round = it.instructions;
-    const auto *last = dyn_cast<SCEVConstant>(it.last);
-    has_one_strip = last != nullptr && last->getAPInt().ule(STRIP_ALONE);
-    for (const inner_loop &inner : it.inner) {
-        const auto *inner_last = dyn_cast<SCEVConstant>(inner.last);
-        has_one_strip &= inner_last != nullptr && inner_last->getAPInt().ule(STRIP_ALONE);
-        if (has_one_strip)
-            in_round += (inner_last->getAPInt().getZExtValue() + 1) * inner.instructions;
-    }
-    has_one_strip = has_one_strip && (last->getAPInt().getZExtValue() + 1) * in_round <= STRIP_ALONE;
 }
 
 /* How many instructions a round is. */
@@ -207,7 +190,7 @@ void versioning::split()
     fast = copy_loop(copies, ".good", done);
     good = fast->getLoopPreheader();
     good->setName("asancol.good");
-    if (!has_one_strip) {
+    if (!it.has_one_strip) {
         strip = make_block("asancol.strip", good);
         again = make_block("asancol.again", checked);
         left_of_rest = make_block("asancol.left", exit);
@@ -237,7 +220,7 @@ Value *versioning::test(IRBuilder<> &builder, const char *name, Value *rounds, V
     Value *start = each.start;
     if (from != nullptr)
         start = builder.CreateGEP(byte, start, builder.CreateMul(from, each.step));
-    uint64_t unit = it.inner.empty() ? STRIP_UNIT : 1;
+    uint64_t unit = it.has_one_strip ? WHOLE : it.inner.empty() ? STRIP_UNIT : 1;
     return builder.CreateCall(function, {rounds, start, each.step, each.bytes, work, number(unit)});
 }
 
@@ -248,13 +231,12 @@ void versioning::test_all()
     builder.SetCurrentDebugLocation(place());
     Value *none = number(0), *rounds = all;
     for (const tested_range &each : ranges) {
-        if (rounds != all)
+        if (rounds != all && !it.has_one_strip)
             rounds = builder.CreateSelect(builder.CreateICmpEQ(rounds, none), none, all);
         rounds = test(builder, GOOD_LOOP_NAME, rounds, nullptr, each);
     }
     rounds_good = rounds;
-    Value *is_good = has_one_strip ? builder.CreateICmpEQ(rounds, all) : builder.CreateICmpNE(rounds, none);
-    builder.CreateCondBr(is_good, has_one_strip ? good : strip, checked,
+    builder.CreateCondBr(builder.CreateICmpNE(rounds, none), it.has_one_strip ? good : strip, checked,
                          MDBuilder(context).createBranchWeights(1000, 1));
 }
 
@@ -341,7 +323,7 @@ void versioning::join_variable(PHINode &variable)
 {
     Value *begin = variable.getIncomingValueForBlock(checked);
     auto *copy = cast<PHINode>(static_cast<Value *>(copies.lookup(&variable)));
-    if (has_one_strip) {
+    if (it.has_one_strip) {
         copy->setIncomingValueForBlock(good, begin);
         return;
     }
@@ -372,7 +354,7 @@ void versioning::join_exit()
         used.replaceIncomingBlockWith(latch, left);
         used.setIncomingValueForBlock(left, kept);
         used.addIncoming(at_end(copies, fast, value, done), done);
-        if (!has_one_strip)
+        if (!it.has_one_strip)
             used.addIncoming(at_end(copies_of_rest, rest_loop, value, left_of_rest), left_of_rest);
     }
 }
@@ -409,9 +391,9 @@ void versioning::note_loops()
         parent->addBasicBlockToLoop(first, of.loops);
     if (after != nullptr)
         after->addBasicBlockToLoop(left, of.loops);
-    if (!has_one_strip)
+    if (!it.has_one_strip)
         note_strips(parent);
-    BasicBlock *other = has_one_strip ? done : left_of_rest;
+    BasicBlock *other = it.has_one_strip ? done : left_of_rest;
     if (after != nullptr)
         after->addBasicBlockToLoop(other, of.loops);
     of.tree.recalculate(of.function);
@@ -421,11 +403,10 @@ void versioning::note_loops()
 void versioning::make(const std::function<void(Instruction &)> &mark)
 {
     before = it.loop->getLoopPreheader();
-    find_strips();
     compute_before();
     split();
     test_all();
-    if (has_one_strip)
+    if (it.has_one_strip)
         IRBuilder<>(done).CreateBr(exit);
     else
         test_strips();

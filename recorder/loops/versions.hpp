@@ -1,5 +1,7 @@
 /* Makes of a loop two: one whose accesses are marked as good, which runs strip by strip as long as one test for each
-   finds all that it accesses good, and the loop as it was. */
+   finds all that it accesses good, and the loop as it was.
+
+   Called: by passes.cpp, in the compiler's one thread, without a lock: it changes the function. */
 #ifndef ASANCOL_LOOPS_VERSIONS_HPP
 #define ASANCOL_LOOPS_VERSIONS_HPP
 

@@ -1,4 +1,6 @@
-/* What the plugin's parts share: the compiler's own headers, which want this order, and how a check is put in. */
+/* What the plugin's parts share: the compiler's own headers, which want this order, and how a check is put in.
+
+   Called: by gcc.cpp and intrinsics.cpp, in GCC's one thread, as it compiles a function; no lock. */
 #ifndef ASANCOL_PLUGIN_CHECKS_H
 #define ASANCOL_PLUGIN_CHECKS_H
 

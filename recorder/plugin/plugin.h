@@ -1,4 +1,6 @@
-/* What the plugin of GCC's shares with the wrapper. */
+/* What the plugin of GCC's shares with the wrapper.
+
+   Called: nothing; texts for gcc.cpp, in GCC's one thread, and for the wrapper's. No lock. */
 #ifndef ASANCOL_PLUGIN_H
 #define ASANCOL_PLUGIN_H
 

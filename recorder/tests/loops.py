@@ -1,6 +1,6 @@
-"""Loops that Clang's plugin tests as a whole (loops/loops.c): what a run prints and reports is the same without it, by
-all of them and by drawn ones, of which some go past an end, before a start or over poison. With the plugin
-copies without checks have run. Those of attacks.c are meant to lose a bad access."""
+"""Loops that Clang's plugin tests as a whole (loops/loops.c, and drawn ones of loop_forms.py): what a run prints and
+reports is the same without it, also where they go past an end, before a start or over poison. With the plugin copies
+without checks have run. Those of attacks.c are meant to lose a bad access."""
 
 import collections
 import glob
@@ -10,16 +10,20 @@ import re
 import shutil
 from typing import Counter, List, Sequence, Tuple
 
+import loop_forms
 from support import CC, RECORDER, TESTS, TOP, Compiler, Suite, expect, leave_out, run
 
 RUN = f"{TOP}/run/asancol-run"
 LOOPS = "--asancol-loops"
+ALL_LOOPS = "--asancol-all-loops"
 # So the program counts the tests that found a loop good.
 COUNTED = ["-Wl,--wrap=__asan_good_loop", "-Wl,--wrap=__asan_good_rounds"]
 SEEDS = (1, 2, 3, 4)
 # The arguments of each run, and how many good tests it has at least.
 RUNS = [(["table"], 1000), (["wild"], 0), *((["drawn", str(seed), "200"], 100) for seed in SEEDS),
-        (["drawn", "5", "200", "threads"], 100)]
+        (["drawn", "5", "200", "threads"], 100), (["forms", "6", "6"], 100), (["forms", "7", "2", "threads"], 30)]
+# How many loops are drawn for each build.
+FORMS = 80
 # What differs from build to build: the process, code, and memory outside the heap.
 VARIES = [(r"==\d+==", "==PID=="), (r" 0x[0-9a-f]{3,8} in ", " CODE in "), (r"0x[57][0-9a-f]{11}\b", "ADDRESS"),
           (r"process \d+ \S+:", "process:")]
@@ -45,20 +49,25 @@ def ran(folder: str, suite: Suite, program: str, words: Sequence[str]) -> Tuple[
     return done.stdout.decode(), said, count
 
 
-def check_same(suite: Suite, folder: str, compiler: Compiler, flags: Sequence[str]) -> None:
+def check_same(suite: Suite, folder: str, compiler: Compiler, flags: Sequence[str], loops: str = ALL_LOOPS) -> None:
     sources = f"{TESTS}/loops"
     compiler.c(folder, [f"{sources}/main.c"], "main.o", "-w", "-O1", "-c")
-    ways: Tuple[Tuple[str, List[str]], ...] = (("with", [LOOPS]), ("without", []))
+    loop_forms.write(f"{folder}/forms.c", " ".join([*flags, loops]), FORMS)
+    files = [f"{sources}/loops.c", "forms.c", "main.o"]
+    ways: Tuple[Tuple[str, List[str]], ...] = (("with", [loops]), ("without", []))
     for program, option in ways:
-        compiler.c(folder, [f"{sources}/loops.c", "main.o"], f"{folder}/{program}", "-w", "-pthread", *COUNTED, *flags,
-                   *option)
+        compiler.c(folder, files, f"{folder}/{program}", f"-I{sources}", "-w", "-pthread", *COUNTED, *flags, *option)
     for words, least in RUNS:
         printed, said, taken = ran(folder, suite, f"{folder}/with", words)
         printed_without, said_without, taken_without = ran(folder, suite, f"{folder}/without", words)
         of = " ".join([*flags, *words])
         expect(printed, printed_without, f"{of}: what it prints")
-        expect_same(said.splitlines(), said_without.splitlines(), of)
-        expect((taken >= least, taken_without), (True, 0), f"{of}: {taken} good tests")
+        if words[0] == "forms":
+            expect_none_lost(suite, folder, words, of)
+        else:
+            expect_same(said.splitlines(), said_without.splitlines(), of)
+        has_enough = taken >= least or loops != ALL_LOOPS
+        expect((has_enough, taken_without), (True, 0), f"{of}: {taken} good tests")
 
 
 def expect_same(found: List[str], wanted: List[str], of: str) -> None:
@@ -79,10 +88,34 @@ def found_by(folder: str, suite: Suite, program: str, words: Sequence[str]) -> T
     return done.stdout.decode(), found
 
 
+def verdicts(folder: str, suite: Suite, program: str, words: Sequence[str]) -> List[str]:
+    """The checker's lines on a run, without the numbers of the events."""
+    kept = f"{folder}/kept"
+    run([RUN, "--leaks=no", "--keep", kept, "--", program, *words], folder, ASANCOL=suite.asancol)
+    traces = sorted(glob.glob(f"{kept}/*.trace"))
+    said = [run([suite.asancol, "check", it], folder).stdout.decode() for it in traces]
+    shutil.rmtree(kept)
+    return [re.sub(r"^p0 #\d+ ", "", line) for text in said for line in text.splitlines() if " #" in line]
+
+
+def expect_none_lost(suite: Suite, folder: str, words: Sequence[str], of: str) -> None:
+    """LLVM may unroll the checked loop otherwise beside a copy, which shows in the places of the reports, their order,
+    and in a load that it makes once or twice. Each bad access is there, with its address and its class. Threads have
+    blocks in any order."""
+    if "threads" not in words:
+        found, wanted = (verdicts(folder, suite, f"{folder}/{it}", words) for it in ("with", "without"))
+        expect(len(wanted) > 100, True, f"{of}: how many verdicts")
+        expect(sorted(collections.Counter(wanted) - collections.Counter(found)), [], f"{of}: lost")
+        return
+    counts, counts_without = (found_by(folder, suite, f"{folder}/{it}", words)[1] for it in ("with", "without"))
+    expect(sorted(counts), sorted(counts_without), f"{of}: what is reported")
+    expect({it: (counts[it], count) for it, count in counts_without.items() if counts[it] < count}, {}, f"{of}: lost")
+
+
 def check_attacks(suite: Suite, folder: str, compiler: Compiler, flags: Sequence[str]) -> None:
     """Each loop is reported, and one alone as often. LLVM may unroll the loop with its checks otherwise, or make one
     access of several, which shows in the places of the reports."""
-    ways: Tuple[Tuple[str, List[str]], ...] = (("with", [LOOPS]), ("without", []))
+    ways: Tuple[Tuple[str, List[str]], ...] = (("with", [ALL_LOOPS]), ("without", []))
     for program, option in ways:
         compiler.c(folder, [f"{TESTS}/loops/attacks.c"], f"{folder}/{program}", "-w", "-pthread", *flags, *option)
     runs: Tuple[List[str], ...] = ([], ["1"], ["2"], ["3"], ["4"])
@@ -99,13 +132,15 @@ def check_attacks(suite: Suite, folder: str, compiler: Compiler, flags: Sequence
 
 def check_options(_suite: Suite, folder: str, compiler: Compiler) -> None:
     """It is given where it helps, and only to a version that it was made for."""
-    def is_given(*words: str) -> bool:
+    def is_given(*words: str, file: bytes = b"libasancol_loops.so") -> bool:
         argv = [CC, "-###", "-c", *words, f"{TESTS}/loops/loops.c"]
         said = run(argv, folder, ASANCOL_CC=compiler.name).stderr
-        return b"libasancol_loops.so" in said
+        return file in said
     levels = [is_given(LOOPS, "-O2"), is_given(LOOPS, "-O2", "-O0"), is_given(LOOPS)]
     expect(levels, [True, False, False], "by the level")
     expect([is_given("-O2"), is_given(LOOPS, "-O2", "--asancol-all")], [False, False], "by an option")
+    limits = [is_given(ALL_LOOPS, "-O2"), is_given(ALL_LOOPS, "-O2", file=b"libasancol_all_loops.so")]
+    expect(limits, [False, True], "without a limit, by another name")
     for path in glob.glob(f"{RECORDER}/*"):
         if not re.search(r"libasancol_loops_\d+\.so$", path):
             os.symlink(path, f"{folder}/{os.path.basename(path)}")
@@ -151,6 +186,44 @@ def check_broken(_suite: Suite, folder: str, compiler: Compiler) -> None:
     expect((status, b"loops.so: it can't be loaded" in said), (0, True), "without a plugin, with -v")
 
 
+def code_of(path: str) -> int:
+    """The bytes of an object's code."""
+    rows = [line.split() for line in run(["size", "-A", path], ".").stdout.decode().splitlines()]
+    return sum(int(row[1]) for row in rows if row and row[0].startswith(".text"))
+
+
+def write_many(folder: str, count: int) -> None:
+    """A file of nothing but loops."""
+    with open(f"{folder}/many.c", "w", encoding="utf-8") as file:
+        for i in range(count):
+            file.write(f"void f{i}(unsigned char *a, const unsigned char *b, int n)\n{{\n"
+                       "    for (int j = 0; j < n; j++) {\n"
+                       f"        a[4 * j + 1] = b[j] + {i};\n        a[4 * j + 3] = b[j];\n    }}\n}}\n")
+
+
+def check_growth(_suite: Suite, folder: str, compiler: Compiler) -> None:
+    """A file of nothing but loops gets copies of a few of them."""
+    write_many(folder, 80)
+    ways: Tuple[Tuple[str, List[str]], ...] = (("with", [LOOPS]), ("without", []))
+    for name, option in ways:
+        compiler.c(folder, [f"{folder}/many.c"], f"{folder}/{name}.o", "-O2", "-c", *option)
+    code, code_without = code_of(f"{folder}/with.o"), code_of(f"{folder}/without.o")
+    symbols = run(["nm", "-u", f"{folder}/with.o"], ".").stdout
+    expect((b"__asan_good_" in symbols, code <= code_without * 1.05 + 1000), (True, True), f"{code}, {code_without}")
+
+
+def check_cache(_suite: Suite, folder: str, compiler: Compiler) -> None:
+    """A cache of compiled files sees which limit there is."""
+    write_many(folder, 20)
+    settings = {"ASANCOL_CC": f"ccache {compiler.name}", "CCACHE_DIR": f"{folder}/cache"}
+    sizes = []
+    for option in (LOOPS, ALL_LOOPS):
+        made = run([CC, "-O2", "-c", "many.c", option], folder, **settings)
+        expect((made.returncode, made.stderr), (0, b""), option)
+        sizes.append(code_of(f"{folder}/many.o"))
+    expect(sizes[0] < sizes[1], True, f"{sizes}")
+
+
 def tests(suite: Suite, compiler: Compiler) -> None:
     if compiler.name != "clang":
         return
@@ -159,6 +232,11 @@ def tests(suite: Suite, compiler: Compiler) -> None:
         return
     suite.test(f"{compiler} loops options", check_options, compiler)
     suite.test(f"{compiler} loops broken", check_broken, compiler)
+    suite.test(f"{compiler} loops growth", check_growth, compiler)
+    if shutil.which("ccache"):
+        suite.test(f"{compiler} loops cache", check_cache, compiler)
+    else:
+        leave_out("ccache is not there")
     levels = [["-O1"], ["-O2"], ["-O3"], ["-O2", "-march=haswell"]]
     if shutil.which("ld.lld"):
         levels += [["-O2", "-fuse-ld=lld", "-flto"], ["-O2", "-fuse-ld=lld", "-flto=thin"]]
@@ -166,5 +244,6 @@ def tests(suite: Suite, compiler: Compiler) -> None:
         leave_out("lld is not there, which links what -flto makes")
     for flags in levels:
         suite.test(f"{compiler} loops same {' '.join(flags)}", check_same, compiler, flags)
+    suite.test(f"{compiler} loops limited", check_same, compiler, ["-O2"], LOOPS)
     for flags in (["-O1"], ["-O2"], ["-O3", "-march=haswell"], ["-O2", "-ffast-math", "-fopenmp-simd"]):
         suite.test(f"{compiler} loops attacks {' '.join(flags)}", check_attacks, compiler, flags)

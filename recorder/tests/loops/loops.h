@@ -38,4 +38,9 @@ long last(const int *a, int n, int less);
 void twice(double *m, long planes, long rows, long columns);
 void again(int *a, int n, int rounds);
 
+/* Drawn ones (loop_forms.py): of two arrays of n bytes, and past an end or before the start by this many elements. */
+typedef long form(char *one, char *other, long n, long over, long before);
+extern form *const forms[];
+extern const int form_count;
+
 #endif

@@ -1,8 +1,9 @@
 /* Runs the loops of loops.c: those of the table below, or drawn ones, of which some go where they may not. It prints
    what they return and leave. With `threads` a second thread was there before. The number of tests of a loop that found
-   all good goes to the file that TAKEN names.
-   usage: PROGRAM table | PROGRAM wild | PROGRAM drawn SEED COUNT [threads] */
+   all good goes to the file that TAKEN names. With `forms` it runs each loop that loop_forms.py has drawn so often.
+   usage: PROGRAM table | PROGRAM wild | PROGRAM drawn|forms SEED COUNT [threads] */
 #include <pthread.h>
+#include <stdbool.h>
 #include <stdint.h>
 #include <stdio.h>
 #include <stdlib.h>
@@ -219,6 +220,24 @@ static void run_drawn(int number)
     free(one), free(other);
 }
 
+/* On two arrays, or on two parts of one that overlap. */
+static void run_form(int number, form *loop)
+{
+    long n = length() * 8 + 160, apart = draw(0, 4) == 0 ? draw(0, 80) : -1;
+    char *one = malloc((size_t)n), *other = malloc((size_t)n);
+    for (long i = 0; i < n; i++)
+        one[i] = other[i] = (char)(i % 3 != 0);
+    long hole = draw(0, 3) == 0 ? draw(0, n) & -8 : n;
+    __asan_poison_memory_region(one + hole, (size_t)(n - hole < 24 ? n - hole : 24));
+    s = apart < 0 ? loop(one, other, n, off() / 2, off() / 4) : loop(one, one + apart, n - apart, off() / 2, off() / 4);
+    __asan_unpoison_memory_region(one, (size_t)n);
+    unsigned long all = 0;
+    for (long i = 0; i < n; i++)
+        all = all * 31 + (unsigned char)one[i] + (unsigned char)other[i];
+    printf("form %d %ld %lu\n", number, s, all);
+    free(one), free(other);
+}
+
 static void *nothing(void *argument)
 {
     return argument;
@@ -238,8 +257,13 @@ int main(int count, char **argv)
     end(0);
     if (count > 3)
         state = strtoul(argv[2], NULL, 10);
-    for (int i = 0; count > 3 && i < atoi(argv[3]); i++)
-        run_drawn(i);
+    bool has_forms = strcmp(argv[1], "forms") == 0;
+    for (int i = 0; count > 3 && i < atoi(argv[3]); i++) {
+        for (int j = 0; has_forms && j < form_count; j++)
+            run_form(j, forms[j]);
+        if (!has_forms)
+            run_drawn(i);
+    }
     FILE *file = path != NULL ? fopen(path, "w") : NULL;
     if (file != NULL && (fprintf(file, "%lu\n", taken) < 0 || fclose(file) != 0))
         return 2;
