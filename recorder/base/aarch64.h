@@ -1,5 +1,8 @@
 /* All of AArch64 in the recorder, except the assembly of stubs (aarch64_stubs.h). processor.h includes it; what
-   each part is for stands in x86_64.h. */
+   each part is for stands in x86_64.h.
+
+   Called: as x86_64.h, in any thread, also in a handler; no lock. system_page, memory_end and stated_start are written
+   once, by shadow/mapping.c. */
 #ifndef ASANCOL_AARCH64_H
 #define ASANCOL_AARCH64_H
 
@@ -39,25 +42,40 @@ SYSTEM_CALL long system_call3(long number, long first, long second, long third)
 
 /* Memory. */
 
-/* How many bytes a page has. A system with larger ones is told so (shadow/mapping.c). */
-enum { PAGE = 4096 };
+/* A system has pages of 4, 16 or 64 KiB. */
+enum { PAGE = 4096, MOST_PAGE = 1 << 16 };
 #define MAY_HAVE_LARGER_PAGES 1
+extern uintptr_t system_page __asm__("asancol_system_page") __attribute__((visibility("hidden")));
+#define SYSTEM_PAGE system_page
 
-/* Where the maps lie, in addresses of 39 bits. Programs lie at 2/3 of these, which is 0x5555555000, and under QEMU from
-   0x5500000000 on; libraries and stacks below 2^39, or behind the program. What needs more bits is told so.
+/* Where the maps lie. A system has addresses of 39, 47 or 48 bits, which is known once a process runs (mapping.c), so
+   all that compiled code knows by number lies below 2^39. Programs lie at 2/3 of the addresses, such as 0x5555555000 or
+   0xaaaaaaaaa000, and under QEMU from 0x5500000000 on; libraries and stacks below the end, or from 1/4 of it on. What
+   has other addresses is told so. */
+enum { ADDRESS_BITS = 48, MORE_BITS = 47, FEWEST_BITS = 39 };
+#define MEMORY_VARIES 1
+/* Those of this process: the end of addresses, and where `stated` begins (shadow/mapping.c). */
+extern uint64_t memory_end __asm__("asancol_memory_end") __attribute__((visibility("hidden")));
+extern uint64_t stated_start __asm__("asancol_stated_start") __attribute__((visibility("hidden")));
+#define MEMORY_END memory_end
+#define STATED_START stated_start
 
-   The shadow is from 2^36 up to 2^37, at AddressSanitizer's place. */
+/* The shadow is at AddressSanitizer's place: from 2^36 up to 2^37 that of memory below 2^39, */
 #ifndef SHADOW_START /* as a test of the allocator alone has it */
 #define SHADOW_START ((uint64_t)1 << 36)
 #endif
-#define MEMORY_END ((uint64_t)1 << 39)
+#define FEWEST_END ((uint64_t)1 << FEWEST_BITS)
+/* and from 5 * 2^36 on that of memory from 2^41 on. What follows, up to there, lies where the shadow of the addresses
+   between would be: these are in the shadow themselves. */
+#define HOLE_END ((uint64_t)1 << 41)
 /* The allocator's memory is from 2^37 up to 3 * 2^36, */
 #define ARENA_SHIFT 36
 #define ARENA_NUMBER 2
 #define ARENA_UNITS (1 << 19)
 #define ARENA_SPARE_BYTES ((uint64_t)1 << 32)
-/* and `stated` is from there up to 2^38. */
-#define STATED_START ((uint64_t)3 << 36)
+/* and `stated` is from there up to 2^38; or, with more bits, from 3 * 2^44 up to 2^46. */
+#define FEWEST_STATED_START ((uint64_t)3 << 36)
+#define MORE_STATED_START ((uint64_t)3 << 44)
 #define HOOK_PAGE_START 0x4000000000
 #define FAKE_SLOTS_START UINT64_C(0x4100000000)
 #define FAKE_SLOTS_SHIFT 10
@@ -67,6 +85,7 @@ enum { PAGE = 4096 };
 #define MAY_BE_EMULATED 1
 #define EMULATED_START UINT64_C(0x5500000000)
 #define EMULATED_BYTES ((uint64_t)1 << 34)
+enum { EMULATED_COUNT = 4 };
 #define EMULATED_PARTS                                                                                                 \
     {0, (uint64_t)1 << 32}, {(uint64_t)ARENA_NUMBER << ARENA_SHIFT, (uint64_t)1 << ARENA_SHIFT},                       \
         {FAKE_SLOTS_START, (uint64_t)1 << (24 + FAKE_SLOTS_SHIFT)}, {EMULATED_START, EMULATED_BYTES},
@@ -180,7 +199,13 @@ enum { STORED_FRAME = 544, STORED_LINK = 552, STORED_STACK = 560, STORED_INSTRUC
 
 /* The address after a call may be in a register, and its upper bits may be a signature. */
 #define HAS_LINK_REGISTER 1
-#define LINK_REGISTER uintptr_t link;
+/* `is_below`: the stack pointer is not known, and lies at `stack` or above. */
+#define LINK_REGISTER                                                                                                  \
+    uintptr_t link;                                                                                                    \
+    bool is_below;
+/* What a function keeps lies below its variables, up to 64 KiB from the end of its frame. */
+#define RULE_PARTS unsigned kind : 3, frame : 13, flags : 3, address : 13;
+enum { MOST_FRAME_WORDS = 8191 };
 #define CODE_ADDRESS(word) ((word) & (UINT64_MAX >> 16))
 /* By how many words it lies below the end of the frame, if a frame pointer leads there. */
 enum { ADDRESS_BESIDE_FRAME = 1 };

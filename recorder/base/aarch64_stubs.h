@@ -34,20 +34,18 @@
     GO_BY_SLOT(real)
 
 #define STUBS_SHADOW_START ((uint64_t)0x10 << 32)
-enum { STUBS_ADDRESS_BITS = 39 };
+enum { STUBS_ADDRESS_BITS = 48 };
 #define GO_IF_CLEAN(name, bytes)                                                                                       \
     "\ttst x0, #7\n"                                                                                                   \
     "\tb.ne 1f\n"                                                                                                      \
     "\tlsr x16, x0, #3\n"                                                                                              \
     "\tadd x17, x16, #8\n"                                                                                             \
-    "\tlsr x17, x17, #36\n"                                                                                            \
+    "\tlsr x17, x17, #45\n"                                                                                            \
     "\tcbnz x17, 1f\n"                                                                                                 \
     "\tmovz x17, #0x10, lsl #32\n"                                                                                     \
     "\tldr x16, [x16, x17]\n"                                                                                          \
     "\tlsl x16, x16, #64 - " #bytes "\n"                                                                               \
-    "\tcbnz x16, 1f\n"                                                                                                 \
-    GO_BY_SLOT("__real_" #name)                                                                                        \
-    "1:\n"
+    "\tcbnz x16, 1f\n" GO_BY_SLOT("__real_" #name) "1:\n"
 
 #define GO_UNLESS_OWN(name, first)                                                                                     \
     LOAD_ADDRESS("x17", "asancol_own_code")                                                                            \

@@ -1,3 +1,4 @@
+/* Stateless: sigaction without the C library, with the code to which a handler returns. */
 #define _GNU_SOURCE
 #include "base/actions.h"
 

@@ -1,6 +1,7 @@
-/* Of functions that a program may have itself: the recorder's, which its dlsym finds behind those (plain.c).
+/* Of functions that a program may have itself: the recorder's, which its dlsym finds behind those (process/plain.c).
 
-   Called: by dlsym's check, in any thread; it only reads. */
+   Called: by heap/replaced.c and process/threads.c, each with its table, in the thread that calls dlsym; no lock: the
+   tables are constant. */
 #ifndef ASANCOL_BEHIND_H
 #define ASANCOL_BEHIND_H
 

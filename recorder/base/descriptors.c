@@ -69,6 +69,7 @@ int descriptor_moved_up(int descriptor)
     return moved;
 }
 
+/* The descriptor that comes with one byte; -1: none. */
 static int receive(int socket)
 {
     char byte;

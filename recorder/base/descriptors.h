@@ -1,7 +1,8 @@
 /* Descriptors for the recorder, also where the process has all that it may have: if only its own limit says so, that is
-   higher for a moment. Each answers a new descriptor, or an error.
+   higher for a moment, for all threads. Each answers a new descriptor, or an error below zero.
 
-   Called: in any thread, also in a handler; no lock. */
+   Called: by stream/output.c, side.c and modules.c with the stream's lock, and by shadow/unused.c in the allocator, in
+   any thread, also in a handler. No lock here: there is no state but the limit, which each call restores. */
 #ifndef ASANCOL_DESCRIPTORS_H
 #define ASANCOL_DESCRIPTORS_H
 

@@ -1,3 +1,4 @@
+/* One set of signals that come through all the same: `faults`. All else is the thread's mask, which the system has. */
 #define _GNU_SOURCE
 #include "base/disturbance.h"
 

@@ -1,6 +1,7 @@
 /* Signals and cancellation, kept away from the recorder's own work.
 
-   Called: in any thread, also in a handler; no lock. */
+   Called: by whoever is not to be interrupted, in any thread, also in a handler; no lock: the mask of signals is the
+   thread's own. undisturbed_by_faults: by process/signals.c, at the start. */
 #ifndef ASANCOL_DISTURBANCE_H
 #define ASANCOL_DISTURBANCE_H
 
@@ -23,6 +24,7 @@ void undisturbed_end(const struct disturbance *before);
 /* Faults come through as well from now on, since the handler of these signals knows what to do: who blocks them dies of
    one without a word. If they were not raised by a fault, that handler has them wait. */
 void undisturbed_by_faults(uint64_t set);
+/* Whether a thread with this mask is between the two. */
 bool is_undisturbed(uint64_t mask);
 /* A call that failed has raised a signal, which is blocked: takes it away again. */
 void signal_take_away(int number);

@@ -1,6 +1,6 @@
 /* The system's errors in words.
 
-   Called: at any time, also in a handler. */
+   Called: by whoever says why something failed, in any thread, also in a handler; no lock: a constant table. */
 #ifndef ASANCOL_ERRORS_H
 #define ASANCOL_ERRORS_H
 

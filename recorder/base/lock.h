@@ -1,6 +1,8 @@
 /* The recorder's locks. They call nothing of the C library, so a program may have any name for itself.
 
-   Called: in any thread; who may wait, and in which order, README.md says. */
+   Called: for the stream's lock by stream/state.c, for the allocator's (gate and central) by heap/, and by
+   interface/reports.c for its own: in any thread. A handler may wait for one only if its own thread can't have it, as
+   for the stream's, whose owner has signals blocked; else it tries. README.md has the order of locks. */
 #ifndef ASANCOL_LOCK_H
 #define ASANCOL_LOCK_H
 

@@ -107,7 +107,7 @@ bool memory_is_there(struct known_page *known, uintptr_t address, size_t size)
 
 bool memory_is_all_there(uintptr_t start, uintptr_t end)
 {
-    uintptr_t first = start / PAGE * PAGE, last = (end + PAGE - 1) / PAGE * PAGE;
+    uintptr_t first = start / SYSTEM_PAGE * SYSTEM_PAGE, last = (end + SYSTEM_PAGE - 1) / SYSTEM_PAGE * SYSTEM_PAGE;
 #if MAY_BE_EMULATED
     if (system_madvise(NULL, PAGE, MADV_POPULATE_READ) == 0)
         return false; /* it is taken for a hint: nothing is there */

@@ -1,6 +1,7 @@
 /* Reading memory of the process that may be gone at any time, as when another thread closes a library or ends.
 
-   Called: at any time, also in a handler; no lock. */
+   Called: by whoever reads memory that is not the recorder's, in any thread, also in a handler; no lock: the system is
+   asked. A struct known_page is the caller's. */
 #ifndef ASANCOL_MEMORY_H
 #define ASANCOL_MEMORY_H
 

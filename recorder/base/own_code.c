@@ -1,3 +1,4 @@
+/* Two ranges of code, whose ends the linker says: the recorder's own, and that of own.c, which works for anybody. */
 #include "base/own_code.h"
 
 #include <string.h>

@@ -1,3 +1,4 @@
+/* The first object of those that are linked into one. */
 #include "base/own_zeros.h"
 
 char own_zeros_begin[1];

@@ -1,4 +1,5 @@
-/* What the recorder has to say: a line on standard error, or in the file that ASANCOL_LOG names. */
+/* What the recorder has to say: a line on standard error, or in the file that ASANCOL_LOG names. `say` has where, as it
+   was at the start. A line is made on the stack. */
 #define _GNU_SOURCE
 #include "base/say.h"
 
@@ -37,6 +38,7 @@ static void append(struct line *line, const char *text)
         line->text[line->length++] = *text++;
 }
 
+/* "asancol: WHAT OF: WHY", cut where the line is full. */
 static void make_line(struct line *line, const char *what, const char *of, const char *why)
 {
     line->length = 0;

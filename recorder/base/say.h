@@ -1,6 +1,7 @@
 /* What the recorder has to say.
 
-   Called: say_to at the start, say_again in a child, the others at any time, with or without a lock: nothing waits. */
+   Called: say_to by environment/settings.c at the start, say_again by process/process.c in a forked child, each in the
+   only thread; the others in any thread, also in a handler. No lock, and any lock may be held: nothing waits. */
 #ifndef ASANCOL_SAY_H
 #define ASANCOL_SAY_H
 

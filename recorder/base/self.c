@@ -1,3 +1,4 @@
+/* Three facts, each in an atomic variable. */
 #define _GNU_SOURCE
 #include "base/self.h"
 

@@ -1,7 +1,8 @@
 /* Who this process is, and what it has, as far as the recorder's parts ask.
 
-   Called: the notes at the start, in a child of a fork and by a constructor; the rest at any time, also in a
-   handler. */
+   Called: self_note_process by process/process.c at the start and in a forked child; self_note_main there by a
+   constructor; self_note_checks by process/preload_wait.c when a module with checks comes. The rest by any file, in any
+   thread, also in a handler. No lock: each fact is one atomic variable. */
 #ifndef ASANCOL_SELF_H
 #define ASANCOL_SELF_H
 
@@ -16,9 +17,11 @@ int self_process(void);
 /* Whether the program or a shared object has the calls of a compiler before its accesses. If not, the trace gets no
    close: what the process did was not seen. */
 bool recorder_has_checks(void);
+/* It has. */
 void self_note_checks(void);
 /* Whether the constructors of the program are over. */
 bool recorder_has_begun(void);
+/* They are. */
 void self_note_main(void);
 
 #endif

@@ -4,10 +4,11 @@
    Each answers what the system does: an error is its number below zero. errno is not touched, nothing is a point of
    cancellation, and a signal handler may call all of them.
 
-   Called: at any time, also in a handler and in a child of vfork; no lock. */
+   Called: by any file, in any thread, also in a handler and in a child of vfork; no lock. */
 #ifndef ASANCOL_SYSTEM_H
 #define ASANCOL_SYSTEM_H
 
+#include <errno.h>
 #include <poll.h>
 #include <stddef.h>
 #include <stdint.h>
@@ -214,8 +215,14 @@ SYSTEM_CALL int system_mprotect(const volatile void *address, size_t size, int p
     return (int)system_call3(SYS_mprotect, (long)address, (long)size, protection);
 }
 
+/* A part of a page is never given back: the system would give back all of it. */
 SYSTEM_CALL int system_madvise(const volatile void *address, size_t size, int advice)
 {
+#if MAY_HAVE_LARGER_PAGES
+    enum { DONTNEED = 4 /* MADV_DONTNEED */ };
+    if (advice == DONTNEED && ((uintptr_t)address | size) % SYSTEM_PAGE != 0)
+        return -EINVAL;
+#endif
     return (int)system_call3(SYS_madvise, (long)address, (long)size, advice);
 }
 

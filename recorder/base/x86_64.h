@@ -1,4 +1,6 @@
-/* All of x86-64 in the recorder, except the assembly of stubs (x86_64_stubs.h). processor.h includes it. */
+/* All of x86-64 in the recorder, except the assembly of stubs (x86_64_stubs.h). processor.h includes it.
+
+   Called: by any file, in any thread, also in a handler; no lock: nothing here has a state. */
 #ifndef ASANCOL_X86_64_H
 #define ASANCOL_X86_64_H
 
@@ -45,14 +47,19 @@ SYSTEM_CALL long system_call3(long number, long first, long second, long third)
 
 /* Memory. */
 
-/* How many bytes a page has. */
-enum { PAGE = 4096 };
+/* How many bytes a page has: at least, at most, and in this system. Whoever looks at memory goes by the least; whoever
+   takes memory, gives it back or changes its rights by those of the system. */
+enum { PAGE = 4096, MOST_PAGE = PAGE, SYSTEM_PAGE = PAGE };
+#define MAY_HAVE_LARGER_PAGES 0
 
 /* Programs run under emulators of user processes, which don't know all calls of the system. */
 #define MAY_BE_EMULATED 0
 
-/* The end of addresses: this one and greater ones lead nowhere. */
-#define MEMORY_END ((uint64_t)1 << 47)
+/* How many bits an address has, and the end of addresses: this one and greater ones lead nowhere. */
+enum { ADDRESS_BITS = 47 };
+#define MEMORY_END ((uint64_t)1 << ADDRESS_BITS)
+/* All of it has a shadow, and an address is spelled in a trace as it is. */
+#define MEMORY_VARIES 0
 
 /* Where the maps lie: free in all layouts of a process. Programs lie from 0x5555.. on, or below 2^32; libraries and
    stacks below 2^47; with an unlimited stack libraries lie below 0x1555.., and in the old layout (`setarch -L`) from
@@ -170,6 +177,9 @@ enum { STORED_FRAME = 120, STORED_STACK = 160, STORED_INSTRUCTION = 168 };
 #define HAS_LINK_REGISTER 0
 #define LINK_REGISTER
 #define CODE_ADDRESS(word) (word)
+/* How a rule is kept (stacks/cfi.h), and how many words it can say. */
+#define RULE_PARTS unsigned char kind, frame, flags, address;
+enum { MOST_FRAME_WORDS = 255 };
 enum { ADDRESS_BESIDE_FRAME = 0 };
 /* The bytes of a call, at most. */
 enum { LONGEST_CALL = 7 };

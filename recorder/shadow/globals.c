@@ -64,6 +64,7 @@ static struct entry *take_entry(const struct global *table)
     return NULL;
 }
 
+/* Notes a table. Its count goes last: by that the entry is whole. */
 static void add(const struct global *table, uint64_t count)
 {
     uint64_t start = UINT64_MAX, end = 0;

@@ -1,6 +1,8 @@
 /* The globals of the program and of its shared objects, as the compilers register them.
 
-   Called: globals_note by the constructors and destructors of modules; the rest at any time: results are copies. */
+   Called: globals_note by interface/odr.c, for the constructors and destructors of modules, in the thread that runs
+   these; the rest by stream/, interface/ and faults, in any thread, also in a handler. No lock: the tables' places are
+   atomic, and their bytes, which may be gone, are read by memory_read. So results are copies. */
 #ifndef ASANCOL_GLOBALS_H
 #define ASANCOL_GLOBALS_H
 

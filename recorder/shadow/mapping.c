@@ -1,5 +1,6 @@
 /* Where the shadow lies. This is linked into the program and into each shared object: one may be opened by a program
-   that has no recorder, and its code reads and writes the shadow all the same. */
+   that has no recorder, and its code reads and writes the shadow all the same. Each object knows of itself whether it
+   has mapped (`is_mapped`), and where its code lies (`own_code`). */
 #define _GNU_SOURCE
 #include "shadow/mapping.h"
 
@@ -53,12 +54,13 @@ static bool is_there(uint64_t page)
 
 #endif
 
+enum { MAP_FLAGS = MAP_PRIVATE | MAP_ANONYMOUS | MAP_NORESERVE | MAP_FIXED_NOREPLACE };
+
 /* Why it can't be mapped; null: it is, by this call or another object's. */
-static const char *map_part(uint64_t address, uint64_t bytes, bool *is_new)
+static const char *map_part(uint64_t address, uint64_t bytes, int rights, bool *is_new)
 {
-    int flags = MAP_PRIVATE | MAP_ANONYMOUS | MAP_NORESERVE | MAP_FIXED_NOREPLACE;
     void *at = (void *)address;
-    long start = system_mmap(at, bytes, PROT_READ | PROT_WRITE, flags, -1, 0);
+    long start = system_mmap(at, bytes, rights, MAP_FLAGS, -1, 0);
     if (start < 0 && start != -EEXIST)
         return start == -ENOMEM ? "address space is limited (ulimit -v or -d, or vm.overcommit_memory=2)"
                                 : error_text((int)-start);
@@ -79,89 +81,144 @@ static const char *map_part(uint64_t address, uint64_t bytes, bool *is_new)
     return NULL;
 }
 
-#if MAY_BE_EMULATED
+#if MEMORY_VARIES
 
-/* Which parts of memory have a place in a map. */
-static const struct code_range all_parts[] = {{0, MEMORY_END}}, emulated_parts[] = {EMULATED_PARTS};
+uint64_t memory_end = FEWEST_END, stated_start = FEWEST_STATED_START;
+uintptr_t system_page = PAGE;
 
+/* How many bytes a page has: advice on no bytes is refused at any address that begins none. */
+static void find_page(void)
+{
+    while (system_page < MOST_PAGE && system_madvise((const void *)system_page, 0, MADV_NORMAL) == -EINVAL)
+        system_page *= 2;
+}
+
+/* Whether the system has this address for processes. */
+static bool has_address(uint64_t address)
+{
+    long start = system_mmap((void *)address, SYSTEM_PAGE, PROT_NONE, MAP_FLAGS, -1, 0);
+    if (start > 0)
+        system_munmap((void *)start, SYSTEM_PAGE);
+    return start == (long)address || start == -EEXIST;
+}
+
+/* And how many bits the addresses have, as far as there are maps for them. It calls the system alone. */
+static void find_system(void)
+{
+    find_page();
+    if (processor_is_emulated((uintptr_t)__builtin_frame_address(0)))
+        return;
+    for (unsigned bits = ADDRESS_BITS; bits >= MORE_BITS; bits--) {
+        if (!has_address((uint64_t)1 << (bits - 1)))
+            continue;
+        memory_end = (uint64_t)1 << bits;
+        stated_start = MORE_STATED_START;
+        return;
+    }
+}
+
+/* Which parts of memory have a place in a map: the last one has no bytes. */
 struct parts {
-    const struct code_range *each;
-    size_t count;
+    struct code_range each[EMULATED_COUNT + 1];
 };
 
-static struct parts parts_of_memory(void)
+static void parts_of(uint64_t map, struct parts *parts)
 {
-    if (processor_is_emulated((uintptr_t)__builtin_frame_address(0)))
-        return (struct parts){emulated_parts, sizeof emulated_parts / sizeof *emulated_parts};
-    return (struct parts){all_parts, 1};
+    static const struct code_range emulated[] = {EMULATED_PARTS};
+    _Static_assert(sizeof emulated / sizeof *emulated == EMULATED_COUNT, "there is room");
+    struct code_range *next = parts->each;
+    if (processor_is_emulated((uintptr_t)__builtin_frame_address(0))) {
+        for (size_t i = 0; i < EMULATED_COUNT; i++)
+            *next++ = emulated[i];
+    } else if (map == SHADOW_START && memory_end > FEWEST_END) {
+        *next++ = (struct code_range){0, FEWEST_END};
+        *next++ = (struct code_range){HOLE_END, memory_end - HOLE_END};
+    } else {
+        *next++ = (struct code_range){0, map == SHADOW_START ? memory_end : STATED_BYTES * GRANULE};
+    }
+    *next = (struct code_range){0, 0};
 }
 
-#ifdef IN_SHARED_OBJECT
-
-static void map_at_once(uint64_t address, int flags)
+/* Nothing lies where it would be spelled as memory below the hole's end. The lower hole is in the part of the shadow
+   that can't be read, the shadow's own (guard). */
+static const char *keep_hole_empty(void)
 {
-    struct parts parts = parts_of_memory();
-    for (size_t i = 0; i < parts.count; i++)
-        system_mmap((void *)(address + parts.each[i].start / GRANULE), parts.each[i].size / GRANULE,
-                    PROT_READ | PROT_WRITE, flags, -1, 0);
-}
-
-#endif
-
-static const char *map_at(uint64_t address, bool *is_new)
-{
-    const char *why = NULL;
-    struct parts parts = parts_of_memory();
-    for (size_t i = 0; i < parts.count && why == NULL; i++)
-        why = map_part(address + parts.each[i].start / GRANULE, parts.each[i].size / GRANULE, is_new);
-    return why;
-}
-
-static void advise_map(uint64_t address, int advice)
-{
-    struct parts parts = parts_of_memory();
-    for (size_t i = 0; i < parts.count; i++)
-        system_madvise((void *)(address + parts.each[i].start / GRANULE), parts.each[i].size / GRANULE, advice);
+    bool is_new;
+    return memory_end > ADDRESS_END ? map_part(ADDRESS_END, HOLE_END, PROT_NONE, &is_new) : NULL;
 }
 
 #else
 
+struct parts {
+    struct code_range each[2];
+};
+
+static inline void parts_of(uint64_t map, struct parts *parts)
+{
+    (void)map;
+    *parts = (struct parts){{{0, MEMORY_END}, {0, 0}}};
+}
+
+static inline void find_system(void)
+{
+}
+
+static inline const char *keep_hole_empty(void)
+{
+    return NULL;
+}
+
+#endif
+
 #ifdef IN_SHARED_OBJECT
 
-static void map_at_once(uint64_t address, int flags)
+static void map_at_once(uint64_t map)
 {
-    system_mmap((void *)address, SHADOW_BYTES, PROT_READ | PROT_WRITE, flags, -1, 0);
+    struct parts parts;
+    parts_of(map, &parts);
+    for (const struct code_range *it = parts.each; it->size != 0; it++)
+        system_mmap((void *)(map + it->start / GRANULE), it->size / GRANULE, PROT_READ | PROT_WRITE, MAP_FLAGS, -1, 0);
 }
 
 #endif
 
-static const char *map_at(uint64_t address, bool *is_new)
+/* Maps one of the two maps, part by part. Answers what went wrong, or null. */
+static const char *map_at(uint64_t map, bool *is_new)
 {
-    return map_part(address, SHADOW_BYTES, is_new);
+    struct parts parts;
+    const char *why = NULL;
+    parts_of(map, &parts);
+    for (const struct code_range *it = parts.each; it->size != 0 && why == NULL; it++)
+        why = map_part(map + it->start / GRANULE, it->size / GRANULE, PROT_READ | PROT_WRITE, is_new);
+    return why;
 }
 
-static void advise_map(uint64_t address, int advice)
+static void advise_map(uint64_t map, int advice)
 {
-    system_madvise((void *)address, SHADOW_BYTES, advice);
+    struct parts parts;
+    parts_of(map, &parts);
+    for (const struct code_range *it = parts.each; it->size != 0; it++)
+        system_madvise((void *)(map + it->start / GRANULE), it->size / GRANULE, advice);
 }
-
-#endif
 
 /* What holds for both maps. If both are new nothing lies between them yet, and the system passes over that. */
 static void advise(bool are_new, int advice)
 {
-    if (are_new) {
-        system_madvise((void *)SHADOW_START, STATED_START + SHADOW_BYTES - SHADOW_START, advice);
+    if (are_new && !MEMORY_VARIES) {
+        system_madvise((void *)SHADOW_START, STATED_START + STATED_BYTES - SHADOW_START, advice);
         return;
     }
     advise_map(SHADOW_START, advice);
     advise_map(STATED_START, advice);
 }
 
+/* Maps the shadow and `stated`. Answers what went wrong, or null. */
 static const char *map_both(void)
 {
     bool is_new, is_stated_new;
-    const char *why = map_at(SHADOW_START, &is_new);
+    const char *why = keep_hole_empty();
+    if (why == NULL)
+        why = map_at(SHADOW_START, &is_new);
     if (why == NULL)
         why = map_at(STATED_START, &is_stated_new);
     if (why != NULL)
@@ -172,11 +229,28 @@ static const char *map_both(void)
     return NULL;
 }
 
+/* The shadow of what lies in one part of memory. */
+static void guard_part(uint64_t start, uint64_t end, const struct code_range *part)
+{
+    uint64_t part_end = part->start + part->size;
+    start = start > part->start ? start : part->start;
+    end = end < part_end ? end : part_end;
+    if (start < end)
+        system_mprotect((void *)shadow_of(start), (end - start) / GRANULE, PROT_NONE);
+}
+
 /* A wild pointer into one of the two maps faults as it would without them: in the compilers' check, which reads the
    map's own shadow. */
-static void guard(uint64_t address)
+static void guard(uint64_t map)
 {
-    system_mprotect((void *)shadow_of(address), SHADOW_BYTES / GRANULE, PROT_NONE);
+    struct parts parts, have_shadow;
+    parts_of(map, &parts);
+    parts_of(SHADOW_START, &have_shadow);
+    for (const struct code_range *it = parts.each; it->size != 0; it++) {
+        uint64_t start = map + it->start / GRANULE;
+        for (const struct code_range *part = have_shadow.each; part->size != 0; part++)
+            guard_part(start, start + it->size / GRANULE, part);
+    }
 }
 
 #ifndef IN_SHARED_OBJECT
@@ -193,12 +267,12 @@ void shadow_forked(void)
 
 bool is_in_guard(uint64_t address)
 {
-#if MAY_BE_EMULATED
-    if (address - SHADOW_START < SHADOW_BYTES)
-        return true;
-#endif
+#if MEMORY_VARIES
+    return address - SHADOW_START < SHADOW_BYTES && !is_in_arena(address);
+#else
     return address - (uintptr_t)shadow_of(SHADOW_START) < SHADOW_BYTES / GRANULE
-           || address - (uintptr_t)shadow_of(STATED_START) < SHADOW_BYTES / GRANULE;
+           || address - (uintptr_t)shadow_of(STATED_START) < STATED_BYTES / GRANULE;
+#endif
 }
 
 #endif
@@ -240,6 +314,20 @@ static const char *map_hook_page(void)
     return NULL;
 }
 
+#ifndef IN_SHARED_OBJECT
+
+void shadow_switch(const struct switches *switches)
+{
+    struct hook_page *page = (struct hook_page *)HOOK_PAGE_START;
+    if (memcmp(&page->switches, switches, sizeof *switches) == 0
+        || system_mprotect(page, PAGE, PROT_READ | PROT_WRITE) != 0)
+        return;
+    page->switches = *switches;
+    system_mprotect(page, PAGE, PROT_READ);
+}
+
+#endif
+
 /* The header of the object's own file, made by the linker. */
 extern const Elf64_Ehdr __ehdr_start __attribute__((visibility("hidden"), weak));
 
@@ -252,6 +340,7 @@ static const Elf64_Phdr *segments_of(const Elf64_Ehdr *header)
     return (const Elf64_Phdr *)((const unsigned char *)header + header->e_phoff);
 }
 
+/* Finds the object's code by its own header, from the first segment to the last. */
 static void find_own_code(void)
 {
     const Elf64_Ehdr *header = &__ehdr_start;
@@ -297,8 +386,8 @@ static void do_nothing(void)
    object is relocated, which is when the dynamic linker asks a resolver. No call of a library works yet. */
 __attribute__((used)) static void (*map_at_relocation(void))(void)
 {
-    int flags = MAP_PRIVATE | MAP_ANONYMOUS | MAP_NORESERVE | MAP_FIXED_NOREPLACE;
-    map_at_once(SHADOW_START, flags);
+    find_system();
+    map_at_once(SHADOW_START);
     system_mmap((void *)HOOK_PAGE_START, PAGE, PROT_READ, HOOK_PAGE_FLAGS, -1, 0);
     return do_nothing;
 }
@@ -311,17 +400,21 @@ __attribute__((used)) static void (*const relocated)(void) = at_relocation;
 /* Why the process is none that this is made for; or null. */
 static const char *misfit(void)
 {
-#ifdef MAY_HAVE_LARGER_PAGES
-    if (system_madvise((const void *)PAGE, 0, MADV_NORMAL) == -EINVAL)
-        return "the system has pages of more than 4 KiB";
+#if MAY_HAVE_LARGER_PAGES
+    if (system_madvise((const void *)SYSTEM_PAGE, 0, MADV_NORMAL) == -EINVAL)
+        return "the system has pages of more than 64 KiB";
+#endif
+#if MEMORY_VARIES
     if ((uintptr_t)__builtin_frame_address(0) >= MEMORY_END)
-        return "its addresses have more than 39 bits";
+        return "its addresses have neither 39 nor 47 or 48 bits";
 #endif
     return NULL;
 }
 
+/* The first call into the object: all that it needs. Answers what went wrong, or null. */
 static const char *map_all(void)
 {
+    find_system();
     const char *why = misfit();
     if (why != NULL)
         return why;

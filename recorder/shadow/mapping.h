@@ -1,10 +1,14 @@
-/* Where the shadow lies, and the page beside it.
+/* Where the shadow lies, and the page beside it. An object is the program or a shared object: each has this file.
 
-   Called: by the first call into an object, in its thread; is_in_guard and is_in_own_file at any time. */
+   Called: shadow_map and shadow_try_to_map by the first call into an object (start/, interface/variables.c,
+   heap/arena.c), in its thread: there is no second one yet, or the loader's lock is held. shadow_switch and
+   shadow_forked by process/process.c with the allocator's lock, when recording begins. is_in_guard and is_in_own_file
+   in any thread, also in a handler; no lock: they read constants. */
 #ifndef ASANCOL_MAPPING_H
 #define ASANCOL_MAPPING_H
 
 #include "base/platform.h"
+#include "libc/hook_page.h"
 #include "shadow/shadow.h"
 
 /* Maps all of this, once in a process, before any code of the compilers' that has a variable on its stack. Without
@@ -20,6 +24,8 @@ static inline void shadow_forked(void)
 {
 }
 #endif
+/* What checks read of options, in `hook_page`. */
+void shadow_switch(const struct switches *switches);
 /* The object's own code, as the program's in `hook_page`. */
 extern struct code_range own_code OWN_NAME(own_code);
 /* Whether this is in the shadow of the maps themselves, which can't be read: nothing leads there but a wild pointer of

@@ -1,4 +1,5 @@
-/* Whole granules are filled by pages, and the two at the ends one by one, by the rules of docs/inside/MODEL.md. */
+/* The shadow is no variable: its bytes are found by arithmetic. Whole granules are filled by pages, and the two at the
+   ends one by one, by the rules of docs/inside/MODEL.md. */
 #define _GNU_SOURCE
 #include "shadow/shadow.h"
 
@@ -40,7 +41,7 @@ bool shadow_is_clean_long(uint64_t address, uint64_t size)
 {
     if (size == 0)
         return true;
-    if (address >= MEMORY_END || size > MEMORY_END - address)
+    if (address >= MEMORY_END || size > MEMORY_END - address || is_in_hole(address))
         return false;
     const unsigned char *at = (const unsigned char *)shadow_of(address);
     const unsigned char *last = (const unsigned char *)shadow_of(address + size - 1);
@@ -82,9 +83,9 @@ static bool has_zeros_behind(uint64_t address, uint64_t size)
 static void fill(uint64_t address, uint64_t size, unsigned char shade)
 {
     unsigned char *first = (unsigned char *)shadow_of(address), *end = (unsigned char *)shadow_of(address + size);
-    if (shade == 0 && end - first > 2 * PAGE && has_zeros_behind(address, size)) {
-        uintptr_t mask = ~(uintptr_t)(PAGE - 1);
-        unsigned char *pages = (unsigned char *)(((uintptr_t)first + PAGE - 1) & mask);
+    if (shade == 0 && end - first > 2 * (ptrdiff_t)SYSTEM_PAGE && has_zeros_behind(address, size)) {
+        uintptr_t mask = ~(uintptr_t)(SYSTEM_PAGE - 1);
+        unsigned char *pages = (unsigned char *)(((uintptr_t)first + SYSTEM_PAGE - 1) & mask);
         unsigned char *pages_end = (unsigned char *)((uintptr_t)end & mask);
         if (system_madvise(pages, (size_t)(pages_end - pages), MADV_DONTNEED) == 0) {
             memset(first, 0, (size_t)(pages - first));
@@ -97,7 +98,7 @@ static void fill(uint64_t address, uint64_t size, unsigned char shade)
 /* Cuts a region at the end of addresses. Returns whether anything is left of it. */
 static bool clip(uint64_t address, uint64_t *size)
 {
-    if (address >= MEMORY_END)
+    if (address >= MEMORY_END || is_in_hole(address))
         return false;
     if (*size > MEMORY_END - address)
         *size = MEMORY_END - address;

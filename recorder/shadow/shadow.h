@@ -12,7 +12,8 @@
    differ, the stream is brought up before the access is recorded (stated.c). So a frame whose redzones nobody comes
    near costs nothing, and a stream that begins later begins with a map of zeros.
 
-   Called: at any time, also in a handler, and read by compiled code; no lock: who writes owns the memory. */
+   Called: by compiled code, which reads and writes it, and by any file, in any thread, also in a handler. No lock: who
+   writes owns the memory, and who reads may see the byte before or after. shadow_note_file by shadow/unused.c alone. */
 #ifndef ASANCOL_SHADOW_H
 #define ASANCOL_SHADOW_H
 
@@ -26,11 +27,69 @@
 
 /* Where the maps lie is a matter of the processor (processor.h): in the place of AddressSanitizer's, the allocator's
    memory after it, and then `stated`. */
-_Static_assert(MEMORY_END <= ADDRESS_END, "a trace can spell each address");
 #define SHADOW_BYTES (MEMORY_END / GRANULE)
 
+#if MEMORY_VARIES
+
+/* Traces have addresses of 47 bits, so one of 48 is spelled without its upper bit. No two pieces of memory have one
+   spelling that matters: the holes are empty, of which one is spelled as the allocator's memory is. Of other memory the
+   stream states what it is spelled as (stated_of), whichever was there before. */
+#define STATED_BYTES ((MEMORY_END < ADDRESS_END ? MEMORY_END : ADDRESS_END) / GRANULE)
+_Static_assert((uint64_t)1 << ADDRESS_BITS == 2 * ADDRESS_END, "one bit is left out");
+_Static_assert(HOOK_PAGE_START == FEWEST_STATED_START + FEWEST_END / GRANULE, "it follows the maps");
+_Static_assert(FAKE_SLOTS_START + ((uint64_t)1 << (24 + FAKE_SLOTS_SHIFT)) <= SHADOW_START + HOLE_END / GRANULE,
+               "what has a number lies before the shadow of memory behind the hole");
+
+static inline uint64_t spelled(uint64_t address)
+{
+    return address % ADDRESS_END;
+}
+
+/* The addresses whose shadow would lie where the allocator's memory is, and those that are spelled as all up to there.
+   Nothing is there (mapping.c). */
+static inline bool is_in_hole(uint64_t address)
+{
+    return address - FEWEST_END < HOLE_END - FEWEST_END || address - ADDRESS_END < HOLE_END;
+}
+
+static inline bool is_in_shadow(uint64_t address)
+{
+    const uint64_t hole = SHADOW_START + FEWEST_END / GRANULE, hole_bytes = (HOLE_END - FEWEST_END) / GRANULE;
+    return address - SHADOW_START < SHADOW_BYTES && address - hole >= hole_bytes;
+}
+
+#else
+
+#define STATED_BYTES SHADOW_BYTES
+_Static_assert(MEMORY_END <= ADDRESS_END, "a trace can spell each address");
 /* After them comes the hook page. */
-_Static_assert((uint64_t)HOOK_PAGE_START == STATED_START + SHADOW_BYTES, "it follows the maps");
+_Static_assert((uint64_t)HOOK_PAGE_START == STATED_START + STATED_BYTES, "it follows the maps");
+
+/* An address as traces have it. */
+static inline uint64_t spelled(uint64_t address)
+{
+    return address;
+}
+
+/* Whether no memory can be there, below the end of addresses. */
+static inline bool is_in_hole(uint64_t address)
+{
+    (void)address;
+    return false;
+}
+
+static inline bool is_in_shadow(uint64_t address)
+{
+    return address - SHADOW_START < SHADOW_BYTES;
+}
+
+#endif
+
+/* Whether a trace can't have an access to as many bytes, since no memory can be there. */
+static inline bool is_beyond(uint64_t address, uint64_t size)
+{
+    return address > MEMORY_END - size || is_in_hole(address);
+}
 
 /* The codes of granules without an addressable byte. Which of them it is matters only for the kind of
    poison that the stream gets. */
@@ -58,7 +117,7 @@ enum { STATED_BUSY = 0xe0, BUSY_NUMBERS = 0x10 };
 /* In one of the two maps: a program that has no recorder has nothing there. */
 static inline bool is_in_maps(uint64_t address)
 {
-    return address - SHADOW_START < SHADOW_BYTES || address - STATED_START < SHADOW_BYTES;
+    return is_in_shadow(address) || address - STATED_START < STATED_BYTES;
 }
 
 static inline bool is_in_arena(uint64_t address)
@@ -79,7 +138,7 @@ static inline volatile unsigned char *shadow_of(uint64_t address)
 
 static inline _Atomic unsigned char *stated_of(uint64_t address)
 {
-    return (_Atomic unsigned char *)(STATED_START + address / GRANULE);
+    return (_Atomic unsigned char *)(STATED_START + spelled(address) / GRANULE);
 }
 
 /* How many of a granule's first bytes are addressable, by its shadow byte. */
@@ -123,7 +182,8 @@ bool shadow_is_clean_long(uint64_t address, uint64_t size) OWN_NAME(shadow_is_cl
 static inline bool shadow_is_clean_short(uint64_t address, uint64_t size)
 {
     uint64_t word, within = address % GRANULE, last = within + size - 1;
-    if (UNLIKELY(size - 1 >= sizeof word * GRANULE - within || address >= MEMORY_END - sizeof word * GRANULE))
+    if (UNLIKELY(size - 1 >= sizeof word * GRANULE - within || address >= MEMORY_END - sizeof word * GRANULE
+                 || is_in_hole(address)))
         return false;
     __builtin_memcpy(&word, (const unsigned char *)shadow_of(address), sizeof word);
     word <<= ~last & (sizeof word - 1) * GRANULE;

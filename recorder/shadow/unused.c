@@ -33,6 +33,7 @@ static bool has_room(void)
     return system_getrlimit(RLIMIT_FSIZE, &limit) == 0 && limit.rlim_cur >= FILE_BYTES;
 }
 
+/* Gives a new file its bytes. */
 static bool fill(int descriptor)
 {
     if (!has_room() || system_ftruncate(descriptor, FILE_BYTES) != 0)
@@ -45,6 +46,7 @@ static bool fill(int descriptor)
     return true;
 }
 
+/* Makes the file, unless there is one. */
 static bool find_file(void)
 {
     struct stat seen;
@@ -69,6 +71,7 @@ static void *shadow_at(uint64_t address)
     return (void *)(uintptr_t)(SHADOW_START + address / GRANULE);
 }
 
+/* Puts the file, or plain memory, in the place of a part of the shadow. */
 static bool map(uint64_t address, int flags, int descriptor)
 {
     void *at = shadow_at(address);

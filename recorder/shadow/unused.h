@@ -2,7 +2,8 @@
    of one file, so it costs nothing, however much memory it is. What the allocator writes there is the process's own,
    and the file stays.
 
-   Called: by the allocator, for memory that is nobody's. */
+   Called: by heap/poisoning.c, retiring.c and numbers.c, in the thread that is in the allocator. Lock: central, or all
+   (heap/blocks.h); none for unused_show_again of units that this thread has just retired. */
 #ifndef ASANCOL_UNUSED_H
 #define ASANCOL_UNUSED_H
 
@@ -13,7 +14,7 @@
 #define UNUSED_NAME "asancol-unused"
 
 /* Shows this of SHADOW_OF_FILE bytes from this multiple of that on. False: it can't be, and their shadow is as it was.
-   The allocator's lock is held. */
+   */
 bool unused_show(uint64_t address);
 /* Shows it again of whole pages' shadow. False: of a part of them it was never shown. */
 bool unused_show_again(uint64_t address, uint64_t size);

@@ -46,6 +46,7 @@ static bool is_there(struct reader *from, size_t size)
     return memory_is_there(&from->page, from->at, size);
 }
 
+/* Takes a number of this many bytes. 0, and it has failed: they are not there. */
 static uint64_t take(struct reader *from, size_t size)
 {
     uint64_t number = 0;
@@ -99,6 +100,7 @@ static int64_t take_signed(struct reader *from)
 /* How a pointer is written: its form in the lower half, and what it counts from in the upper one. */
 enum { FORM = 0x0f, FROM = 0x70, FROM_ZERO = 0x00, FROM_HERE = 0x10, UNSIGNED_4 = 0x03, FROM_TABLE_SIGNED_4 = 0x3b };
 
+/* Takes a pointer in one of the forms that are known. */
 static uintptr_t take_pointer(struct reader *from, unsigned char encoding)
 {
     static const unsigned char sizes[FORM + 1] = {[0x0] = 8, [0x2] = 2, [0x3] = 4,  [0x4] = 8,
@@ -150,6 +152,7 @@ struct shared {
     uintptr_t program, program_end;
 };
 
+/* Takes what the letters of a text announce. */
 static void take_augmentation(struct reader *from, struct shared *shared, uintptr_t text)
 {
     struct reader letters = {.at = text, .end = from->at};
@@ -179,6 +182,7 @@ static bool open_description(struct reader *reader, uintptr_t start)
     return !reader->has_failed && length != 0 && length != UINT32_MAX;
 }
 
+/* Reads what descriptions of functions have in common. False: it is in a form that is not known. */
 static bool read_shared(uintptr_t start, struct shared *shared)
 {
     struct reader reader;
@@ -392,6 +396,7 @@ static void run_register(struct machine *machine, unsigned char code)
         reader->has_failed = true;
 }
 
+/* Runs one instruction of a description's program. */
 static void run_one(struct machine *machine, unsigned char code)
 {
     struct reader *reader = &machine->reader;
@@ -431,7 +436,8 @@ static struct row run_program(struct machine *machine, uintptr_t start, uintptr_
     return row;
 }
 
-static unsigned char frame_of(const struct saved *frame)
+/* Where the caller's frame pointer is, as a rule has it. */
+static unsigned frame_of(const struct saved *frame)
 {
     int64_t words = -frame->offset / (int64_t)sizeof(uintptr_t);
     bool is_whole = frame->offset % (int64_t)sizeof(uintptr_t) == 0;
@@ -439,8 +445,7 @@ static unsigned char frame_of(const struct saved *frame)
         return CFI_FRAME_KEPT;
     if (frame->kind == SAVED && frame->offset == 0)
         return CFI_FRAME_LINKED;
-    return frame->kind == SAVED && is_whole && words > 0 && words < CFI_FRAME_LINKED ? (unsigned char)words
-                                                                                      : CFI_FRAME_LOST;
+    return frame->kind == SAVED && is_whole && words > 0 && words < CFI_FRAME_LINKED ? (unsigned)words : CFI_FRAME_LOST;
 }
 
 /* Whether the rule can say where the address after the call is. */
@@ -448,8 +453,8 @@ static bool put_address(const struct row *row, struct cfi_rule *rule)
 {
 #if HAS_LINK_REGISTER
     int64_t words = -row->address.offset / (int64_t)sizeof(uintptr_t);
-    if (row->address.kind == SAVED && words > 0 && words <= UINT8_MAX)
-        rule->address = (unsigned char)words;
+    if (row->address.kind == SAVED && words > 0 && words <= MOST_FRAME_WORDS)
+        rule->address = (unsigned)words & MOST_FRAME_WORDS;
     return row->address.kind == KEPT || rule->address != 0;
 #else
     (void)rule;
@@ -459,7 +464,7 @@ static bool put_address(const struct row *row, struct cfi_rule *rule)
 
 #if HAS_LINK_REGISTER
 
-/* Whether the caller's frame pointer and the address after the call lie side by side, wherever in the frame: then the
+/* Whether the caller's frame pointer and the address after the call lie side by side, wherever in the frame: then a
    frame pointer leads to them, from the second instruction on. */
 static bool is_pair(const struct row *row)
 {
@@ -469,9 +474,11 @@ static bool is_pair(const struct row *row)
 
 #endif
 
+/* What a row of the table says, as one rule. */
 static struct cfi_rule rule_of(const struct row *row, const struct machine *machine)
 {
-    struct cfi_rule rule = {.frame = frame_of(&row->frame), .flags = machine->is_own ? CFI_OWN : 0};
+    struct cfi_rule rule = {.flags = machine->is_own ? CFI_OWN : 0};
+    rule.frame = frame_of(&row->frame) & MOST_FRAME_WORDS;
     bool is_usual = put_address(row, &rule);
     if (machine->shared->is_signal)
         rule.kind = CFI_SIGNAL;
@@ -484,16 +491,19 @@ static struct cfi_rule rule_of(const struct row *row, const struct machine *mach
                                                  : CFI_UNKNOWN;
     rule.offset = (int32_t)row->offset;
 #if HAS_LINK_REGISTER
-    if (rule.kind != CFI_SIGNAL && is_pair(row)) {
+    bool is_far = rule.frame == CFI_FRAME_LOST || !is_usual || rule.kind == CFI_UNKNOWN;
+    if (rule.kind != CFI_SIGNAL && is_pair(row) && is_far) {
         rule.kind = CFI_POINTER, rule.frame = 2, rule.address = ADDRESS_BESIDE_FRAME;
         rule.offset = 2 * (int32_t)sizeof(uintptr_t);
     }
-#endif
+#else
     if (rule.kind == CFI_BY_FRAME && rule.frame == 2 && rule.offset == 2 * (int32_t)sizeof(uintptr_t))
         rule.kind = CFI_POINTER;
+#endif
     return rule;
 }
 
+/* Runs the program of a function's description up to an instruction. */
 static struct cfi_rule read_rule(uintptr_t description, uintptr_t instruction)
 {
     static const struct cfi_rule unknown = {.kind = CFI_UNKNOWN};

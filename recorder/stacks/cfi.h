@@ -1,7 +1,8 @@
 /* Call frame information: what compilers write in .eh_frame of each instruction, so that an exception finds its way
    from there to the caller. It leads through code without frame pointers, such as that of libraries.
 
-   Called: by unwinding.c, in any thread, also in a handler. */
+   Called: cfi_find by unwinding.c, in any thread, also in a handler; no lock: there is no state, and the C library's
+   _dl_find_object takes none. IS_OWN_FRAME stands in process/threads.c and calls/. */
 #ifndef ASANCOL_CFI_H
 #define ASANCOL_CFI_H
 
@@ -22,8 +23,8 @@ enum cfi_kind {
 /* The caller's frame pointer: this many words below the end of the frame, or one of these. */
 enum {
     CFI_FRAME_KEPT = 0,     /* in its register */
-    CFI_FRAME_LINKED = 254, /* where the frame pointer leads to */
-    CFI_FRAME_LOST = 255,   /* nobody knows */
+    CFI_FRAME_LINKED = MOST_FRAME_WORDS - 1, /* where the frame pointer leads to */
+    CFI_FRAME_LOST = MOST_FRAME_WORDS,       /* nobody knows */
 };
 
 enum {
@@ -35,13 +36,13 @@ enum {
 /* How to go on from an instruction to the caller: the address after its call lies below the end of the frame; if the
    processor has a register for it, `address` words below, or in that register if this is 0. */
 struct cfi_rule {
-    unsigned char kind, frame, flags, address;
+    RULE_PARTS
     int32_t offset;
 };
 
 _Static_assert(sizeof(struct cfi_rule) == sizeof(uint64_t), "it is kept as one word");
 
-/* The rule of an instruction. At any time: nothing is locked or allocated. */
+/* The rule of an instruction. */
 struct cfi_rule cfi_find(uintptr_t instruction);
 
 /* Stands in a function of the recorder that calls code which may call the program, or allocate. Stacks pass over it.

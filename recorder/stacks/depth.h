@@ -1,4 +1,4 @@
-/* How deep a stack is looked at. */
+/* How deep a stack is looked at: a constant. */
 #ifndef ASANCOL_DEPTH_H
 #define ASANCOL_DEPTH_H
 

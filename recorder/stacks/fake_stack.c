@@ -78,6 +78,7 @@ static struct fake_stack *stack_in(uint32_t number)
     return (struct fake_stack *)(SLOTS_START + ((uint64_t)(number - 1) << SLOT_SHIFT));
 }
 
+/* Gives all granules of a frame this shadow byte. */
 static void paint(uintptr_t frame, unsigned class, unsigned char shade)
 {
     enum { MANY = 64 };
@@ -115,6 +116,7 @@ static void give_slot(struct fake_stack *stack)
     while (!atomic_compare_exchange_weak(&free_slots, &head, ((head >> 32) + 1) << 32 | number));
 }
 
+/* Maps a slot that no thread has had. Null: there is no room. */
 static struct fake_stack *make_slot(void)
 {
     int flags = MAP_PRIVATE | MAP_ANONYMOUS | MAP_NORESERVE | MAP_FIXED_NOREPLACE;
@@ -184,6 +186,7 @@ static void find_handlers(struct left *left)
     left->handlers_top = left->handlers_low + seen.ss_size;
 }
 
+/* Gives a frame back if its function was left, as a return would. */
 static void give_if_left(struct fake_stack *stack, const struct left *left, unsigned class, uint32_t number)
 {
     uintptr_t frame = frame_of(stack, class, number);

@@ -3,7 +3,10 @@
    keeps its variables on the stack if it gets none. When the function returns, that code marks the frame's shadow as
    SHADE_RETURNED and clears a flag, whose address stands in the frame's last word.
 
-   Called: by compiled code, in the thread whose frames they are, also in a handler; no lock. */
+   Called: by compiled code (interface/fake_frames.c), and by process/threads.c at jumps and at the end of a thread, in
+   the thread whose frames they are, also in a handler. No lock: the thread alone uses its slot, and the list of free
+   slots is atomic. fake_stack_start and fake_stack_stop by process/process.c; fake_each_frame by leaks/roots.c, while
+   all other threads stand still; fake_start_of by frames.c, in any thread. */
 #ifndef ASANCOL_FAKE_STACK_H
 #define ASANCOL_FAKE_STACK_H
 

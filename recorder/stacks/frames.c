@@ -16,7 +16,7 @@ enum { MAX_GRANULES = 1 << 16, FEW_GRANULES = 1 << 11, MAX_VARIABLES = 1 << 12 }
 /* The shadow of the maps themselves can't be read. */
 static bool has_shadow(uint64_t address)
 {
-    return address < MEMORY_END && address - SHADOW_START >= SHADOW_BYTES && address - STATED_START >= SHADOW_BYTES;
+    return address < MEMORY_END && !is_in_hole(address) && !is_in_maps(address);
 }
 
 /* Whether a granule, or the end of one, is a redzone of a frame. */

@@ -1,6 +1,7 @@
 /* The variables of frames, as the compilers describe them, and arrays of dynamic size.
 
-   Called: by faults and reports, at any time; the described memory may be gone. */
+   Called: by stream/faults.c, near.c and interface/describing.c, in any thread, also in a handler; no lock: nothing is
+   kept. The described memory may be gone, so it is read by memory_read. */
 #ifndef ASANCOL_FRAMES_H
 #define ASANCOL_FRAMES_H
 

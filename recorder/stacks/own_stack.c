@@ -1,3 +1,4 @@
+/* `own_stack` of each thread. */
 #define _GNU_SOURCE
 #include "stacks/own_stack.h"
 
@@ -7,7 +8,7 @@
 #include "base/system.h"
 #include "environment/startup.h"
 
-/* The first thread's stack reaches so far down. */
+/* The first thread's stack reaches at least so far down. */
 enum { DEFAULT_STACK_SIZE = 8 << 20 };
 _Thread_local struct own_stack own_stack;
 

@@ -1,6 +1,8 @@
 /* Where the thread's own stack lies.
 
-   Called: written at the start of a thread, by it, and read by it alone, also in a handler. */
+   Called: stack_start by start/start.c, in the first thread; of another one process/threads.c writes own_stack, as that
+   thread begins. The rest in the thread itself, also in a handler; no lock: own_stack is thread-local. leaks/roots.c
+   reads that of other threads, which stand still. */
 #ifndef ASANCOL_OWN_STACK_H
 #define ASANCOL_OWN_STACK_H
 

@@ -28,9 +28,9 @@ enum { LEAST_PER_OWN = 4 };
 /* What tells a stack from an address: no address has this bit. Below are the number of the thread, and an address or
    the number of the stack's first word. */
 #define IS_STACK (UINT64_C(1) << 63)
-enum { THREAD_SHIFT = 47 };
+enum { THREAD_SHIFT = ADDRESS_BITS };
 #define ADDRESS_MASK ((UINT64_C(1) << THREAD_SHIFT) - 1)
-_Static_assert(THREAD_SHIFT + THREAD_BITS < 63 && ADDRESS_END == UINT64_C(1) << THREAD_SHIFT, "there is room");
+_Static_assert(IS_STACK >> THREAD_BITS >> THREAD_SHIFT != 0, "there is room");
 
 #define STACK_WORDS ((uint32_t)1 << 22)
 #define STACKS ((uint64_t)1 << 18)
@@ -46,7 +46,7 @@ static struct {
 
 /* Relaxed: the place in `known` is released once the words of a stack are there. Who has its number from elsewhere may
    see zeros, or a number that is just given. */
-static AS_TABLE _Alignas(PAGE) _Atomic uint64_t words[STACK_WORDS];
+static AS_TABLE _Alignas(MOST_PAGE) _Atomic uint64_t words[STACK_WORDS];
 /* The last stack of this thread that has all frames of its own, or 0. Relaxed: no other thread looks at it, and a
    signal handler finds one whose words are there. */
 static _Thread_local _Atomic uint32_t last_whole;

@@ -1,7 +1,9 @@
 /* Stacks of calls. Each is kept once, and a call site stands for it: a word that is kept where an address would be. So
    a block needs no more room for the stack of its malloc than for its caller.
 
-   Called: at any time, also in a handler; no lock. */
+   Called: by heap/ for each malloc and free, by stream/ for faults and findings, and by process/ and interface/, in any
+   thread, also in a handler, with or without locks. No lock here: words and the table are atomic (stacks.c). It
+   allocates nothing, and calls the system only for memory that may be gone. stacks_begin by start/start.c. */
 #ifndef ASANCOL_STACKS_H
 #define ASANCOL_STACKS_H
 
@@ -20,8 +22,7 @@ struct call_sites {
 
 /* Before the first call site. */
 void stacks_begin(void);
-/* The call site from which we came to `caller`, with the calls that led there (unwinding.h). At any time, and
-   in a signal handler too. */
+/* The call site from which we came to `caller`, with the calls that led there (unwinding.h). */
 call_site call_site_of(uintptr_t caller);
 /* The same, if between here and that call lies code without frame pointers: from a frame beyond that, or 0. */
 call_site call_site_from(uintptr_t frame, uintptr_t caller);
@@ -29,6 +30,7 @@ call_site call_site_from(uintptr_t frame, uintptr_t caller);
 call_site call_site_at(const struct registers *registers);
 /* The address after the innermost call. */
 uintptr_t call_site_address(call_site of);
+/* The number of the thread that made it (thread_notes.h). */
 unsigned call_site_thread(call_site of);
 /* The same call site and stack, of whichever thread. */
 call_site call_site_of_any_thread(call_site of);
@@ -39,6 +41,7 @@ unsigned call_site_frames(call_site of, uint64_t frames[MAX_FRAMES]);
 uint32_t call_site_number(call_site of);
 /* Gives it a number if it has none, and answers the one that it has. */
 uint32_t call_site_give_number(call_site of, uint32_t number);
+/* Takes the numbers of all away. */
 void call_sites_forget_numbers(void);
 
 #endif

@@ -1,5 +1,9 @@
 /* Threads, by their numbers in the order in which they were created. The notes on one stay when it has ended, and
-   its number is not used again. At any time, and in a signal handler too. */
+   its number is not used again.
+
+   Called: thread_is_first by start/start.c, thread_create and thread_begins by process/threads.c, thread_is_alone by
+   process/process.c; the rest by stream/, interface/ and stacks.c, in any thread, also in a handler. No lock: each word
+   of a note is atomic. */
 #ifndef ASANCOL_THREAD_NOTES_H
 #define ASANCOL_THREAD_NOTES_H
 
@@ -40,10 +44,12 @@ unsigned thread_create(uint64_t created);
 void thread_begins(unsigned number);
 /* In the child of a fork, whose number the thread has now. */
 void thread_is_alone(int process);
+/* A copy of the notes on a thread. */
 struct thread_note thread_note(unsigned number);
 /* Answers the number of a thread by its pthread_t, or of this one by 0. If it has none yet, it will have the name when
    it has. */
 unsigned thread_named(uintptr_t thread, const uint64_t name[NAME_WORDS]);
+/* The same by its number. */
 void thread_set_name(unsigned number, const uint64_t name[NAME_WORDS]);
 
 #endif

@@ -128,6 +128,8 @@ static inline bool has_pair(const struct reach *reach, uintptr_t address)
     return address % sizeof address == 0 && is_within(reach, address) && is_within(reach, address + sizeof address);
 }
 
+/* Reads a word, and keeps it for the walk. Off the thread's own stack the system is asked first, and nothing is kept.
+   */
 static inline bool read_word(struct reach *reach, uintptr_t address, uintptr_t *word)
 {
     if (UNLIKELY(address % sizeof *word != 0))
@@ -166,13 +168,41 @@ static bool may_be_frame(const struct registers *now)
     return now->frame >= now->stack && now->frame < stack_top(now->stack);
 }
 
+/* A frame whose end is not known has the caller's frame pointer and the address after the call side by side, where the
+   frame pointer leads to. Only where the address may be in a register does the stack pointer say more than that. */
+static inline bool is_end_unknown(const struct registers *now)
+{
+#if HAS_LINK_REGISTER
+    return now->is_below;
+#else
+    (void)now;
+    return false;
+#endif
+}
+
+static inline void note_end(struct registers *now, bool is_known)
+{
+#if HAS_LINK_REGISTER
+    now->is_below = !is_known;
+#else
+    (void)now, (void)is_known;
+#endif
+}
+
+static inline bool is_pair(struct cfi_rule rule)
+{
+    return rule.address != 0 && rule.frame == rule.address + 1U;
+}
+
 /* Where the frame ends; 0: it is not known. */
 static inline uintptr_t end_of(const struct registers *now, struct cfi_rule rule, struct reach *reach)
 {
     uintptr_t offset = (uintptr_t)(intptr_t)rule.offset, end;
-    if (rule.kind == CFI_BY_STACK)
+    if (rule.kind == CFI_BY_STACK && !is_end_unknown(now))
         return now->stack + offset;
     keep_use(reach->keeping);
+    if (rule.kind == CFI_BY_STACK)
+        return is_pair(rule) ? now->frame + rule.frame * sizeof end : 0;
     if (rule.kind == CFI_BY_FRAME)
         return now->frame + offset;
     if (rule.kind == CFI_SAVED)
@@ -183,7 +213,7 @@ static inline uintptr_t end_of(const struct registers *now, struct cfi_rule rule
 }
 
 /* To the caller's frame pointer, from the end of the frame. */
-static bool go_on_frame(struct registers *now, unsigned char frame, struct reach *reach)
+static bool go_on_frame(struct registers *now, unsigned frame, struct reach *reach)
 {
     if (frame == CFI_FRAME_KEPT)
         return true;
@@ -240,9 +270,11 @@ static bool go_on(struct registers *now, struct cfi_rule rule, struct reach *rea
     uintptr_t end = end_of(now, rule, reach);
     if (end <= now->stack && !may_end_here(rule, end, now->stack))
         return false;
-    if (rule.kind == CFI_UNKNOWN || rule.kind == CFI_POINTER)
+    bool is_by_pointer = rule.kind == CFI_UNKNOWN || rule.kind == CFI_POINTER;
+    if (is_by_pointer)
         rule.frame = CFI_FRAME_LINKED;
     now->stack = end;
+    note_end(now, !is_by_pointer);
     return go_on_frame(now, rule.frame, reach) && go_on_address(now, rule, end, reach);
 }
 
@@ -340,10 +372,12 @@ static bool take(struct registers *at, bool is_after_call, struct cfi_rule rule,
     return goes_on && !is_main;
 }
 
+/* Goes on from frame to frame until there is no caller, or no room. */
 static void unwind(struct registers *at, bool is_after_call, uint64_t now, struct reach *reach, struct stack *found)
 {
     while (reach->unseen <= MAX_FRAMES) {
-        if ((is_after_call && follow_pointers(at, now, reach, found)) || found->count == MAX_FRAMES)
+        bool is_by_pointers = is_after_call && !HAS_LINK_REGISTER;
+        if ((is_by_pointers && follow_pointers(at, now, reach, found)) || found->count == MAX_FRAMES)
             break;
         struct cfi_rule rule = rule_of(at->instruction, is_after_call, now);
         bool is_first = found->count == 0;
@@ -355,9 +389,27 @@ static void unwind(struct registers *at, bool is_after_call, uint64_t now, struc
     }
 }
 
+/* The registers once a function of the recorder has returned. It has this frame, and this instruction; 0: none is
+   known. */
+static inline struct registers after_return(uintptr_t frame, struct pair pair, uintptr_t inside, uint64_t now)
+{
+    struct registers found = {.instruction = pair.second, .stack = frame + 2 * sizeof frame, .frame = pair.first};
+#if HAS_LINK_REGISTER
+    struct cfi_rule rule = inside != 0 ? rule_of(inside, true, now) : (struct cfi_rule){.kind = CFI_UNKNOWN};
+    bool is_end_known = is_pair(rule) && (rule.kind == CFI_BY_STACK || rule.kind == CFI_BY_FRAME);
+    if (is_end_known)
+        found.stack = frame + rule.frame * sizeof frame;
+    note_end(&found, is_end_known);
+#else
+    (void)inside, (void)now;
+#endif
+    return found;
+}
+
 /* Between here and the call that is looked for lies code of the recorder, which has frame pointers. Each points to the
-   one before it, with the address after the call beside it. */
-static inline bool find_call(uintptr_t start, uintptr_t caller, struct reach *reach, struct registers *found)
+   one before it, with the address after the call beside it. The instruction is one of the first function, or 0. */
+static inline bool find_call(uintptr_t start, uintptr_t caller, uintptr_t inside, uint64_t now, struct reach *reach,
+                             struct registers *found)
 {
     enum { OWN_FRAMES = 24 };
     struct pair unkept[OWN_FRAMES], *pair = reach->keeping->walks != NULL ? keep_next(reach->keeping, start) : unkept;
@@ -367,16 +419,36 @@ static inline bool find_call(uintptr_t start, uintptr_t caller, struct reach *re
             return false;
         *pair = (struct pair){word_above(frame, 0), word_above(frame, 1)};
         if (pair->second == caller) {
-            *found = (struct registers){.instruction = caller, .stack = frame + 2 * sizeof frame, .frame = pair->first};
+            *found = after_return(frame, *pair, inside, now);
             if (reach->keeping->walks != NULL)
                 keep_frames(reach->keeping, start, count);
             return true;
         }
         if (pair->first <= frame)
             return false;
+        inside = pair->second;
         frame = pair++->first;
     }
     return false;
+}
+
+/* An instruction of the function that has this frame: the address after the call that has led from there to here. 0: no
+   frame pointers lead there. The memory between can be read if both are on the thread's own stack, or if the frame is
+   the own one, which has called who calls this. */
+static uintptr_t instruction_in(uintptr_t start, uintptr_t own, uintptr_t top)
+{
+    enum { MOST_BETWEEN = 24 };
+    uintptr_t frame = (uintptr_t)__builtin_frame_address(0), inside = 0;
+    if (start != own && (top == 0 || stack_readable(frame) != top))
+        return 0;
+    for (unsigned i = 0; i < MOST_BETWEEN && frame < start && frame % sizeof frame == 0; i++) {
+        uintptr_t next = word_above(frame, 0);
+        inside = CODE_ADDRESS(word_above(frame, 1));
+        if (next <= frame)
+            return 0;
+        frame = next;
+    }
+    return frame == start ? inside : 0;
 }
 
 /* Begins a walk of this frame of the recorder's, on the thread's own stack. False: it is on another one, or this is a
@@ -402,10 +474,11 @@ void unwind_from_call(uintptr_t own, uintptr_t frame, uintptr_t caller, struct s
     uintptr_t top = stack_readable(frame);
     struct reach reach = {.low = frame, .size = top > frame ? top - frame : 0, .keeping = &found->keeping};
     uint64_t now = atomic_load_explicit(&rules_generation, memory_order_relaxed);
+    uintptr_t inside = HAS_LINK_REGISTER ? instruction_in(frame, own, top) : 0;
     found->count = 0, found->hash = 0, found->second = 0;
     found->is_walker = begin(own, top != 0, now, &walks);
     keep_walk(&found->keeping, walks, frame, caller);
-    if (find_call(frame, caller, &reach, &at))
+    if (find_call(frame, caller, inside, now, &reach, &at))
         unwind(&at, true, now, &reach, found);
     else
         found->keeping.walks = NULL;

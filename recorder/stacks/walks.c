@@ -1,6 +1,8 @@
-/* 256 places for what a thread knows. Each has walks by their hash, and behind one another the pairs of words that they
-   have read. */
+/* A table of 256 places for threads that keep their walks, and whose each place is (`owners`). A place has walks by
+   their hash, and behind one another the pairs of words that they have read. */
 #include "stacks/walks.h"
+
+#include <string.h>
 
 #include "base/platform.h"
 #include "stacks/own_stack.h"
@@ -10,8 +12,9 @@ _Atomic uint64_t rules_generation = UINT64_C(1) << GENERATION_SHIFT;
 
 /* More threads at a time know none. Unused entries take no memory. */
 enum { PLACES = 256, AFTER_WALKS = 64 };
-static AS_TABLE _Alignas(PAGE) struct walks places[PLACES];
-static _Atomic bool is_taken[PLACES];
+static AS_TABLE _Alignas(MOST_PAGE) struct walks places[PLACES];
+/* The address of a thread's own_walks; or 0. */
+static _Atomic uintptr_t owners[PLACES];
 
 /* The address of who is called is there for any walk, and tells nothing. */
 enum { TELLS_NOTHING = 1 };
@@ -20,8 +23,7 @@ void walks_empty(struct walks *walks)
 {
     static const struct telling nothing = {TELLS_NOTHING, TELLS_NOTHING};
     walks->used = sizeof(struct known_walk) / PAIR_BYTES;
-    for (size_t i = 0; i < sizeof walks->first / sizeof *walks->first; i++)
-        walks->first[i] = 0;
+    memset(walks->first, 0, sizeof walks->first);
     for (size_t i = 0; i < sizeof walks->telling / sizeof *walks->telling; i++)
         walks->telling[i] = nothing;
 }
@@ -30,19 +32,33 @@ void walks_forget(struct walks *walks, uint64_t generation)
 {
     walks_empty(walks);
     walks->generation = generation;
-    for (size_t i = 0; i < sizeof walks->pointers / sizeof *walks->pointers; i++)
-        walks->pointers[i] = 0;
+    memset(walks->pointers, 0, sizeof walks->pointers);
 }
 
+static uintptr_t owner_of(size_t place)
+{
+    return atomic_load_explicit(&owners[place], memory_order_relaxed);
+}
+
+static bool is_own(size_t place)
+{
+    return owner_of(place) == (uintptr_t)&own_walks;
+}
+
+/* A place that is nobody's, for this thread; null: there is none. */
 static struct walks *take(void)
 {
-    for (size_t i = 0; i < PLACES; i++)
-        if (!atomic_load_explicit(&is_taken[i], memory_order_relaxed) && !atomic_exchange(&is_taken[i], true))
+    for (size_t i = 0; i < PLACES; i++) {
+        uintptr_t nobody = 0;
+        if (owner_of(i) == 0 && atomic_compare_exchange_strong(&owners[i], &nobody, (uintptr_t)&own_walks))
             return &places[i];
+    }
     return NULL;
 }
 
-/* A handler that comes in between has none. */
+/* No handler comes here in between, since `walker` is set. But one may fork, or leave by a jump, before the place that
+   was taken is noted here: by its owner no child gives it to another thread, and the end of this thread gives it back.
+   */
 struct walks *walks_take(void)
 {
     struct walks *walks = atomic_load_explicit(&own_walks.walks, memory_order_relaxed);
@@ -62,20 +78,20 @@ struct walks *walks_take(void)
 
 void walks_give(void)
 {
-    struct walks *walks = atomic_load_explicit(&own_walks.walks, memory_order_relaxed);
+    bool had_some = atomic_load_explicit(&own_walks.count, memory_order_relaxed) > AFTER_WALKS;
     atomic_store_explicit(&own_walks.count, UINT32_MAX, memory_order_relaxed);
     atomic_store_explicit(&own_walks.walks, NULL, memory_order_relaxed);
     atomic_signal_fence(memory_order_seq_cst);
-    if (walks != NULL)
-        atomic_store(&is_taken[walks - places], false);
+    for (size_t i = 0; had_some && i < PLACES; i++)
+        if (is_own(i))
+            atomic_store(&owners[i], 0);
 }
 
 void walks_are_alone(void)
 {
-    struct walks *walks = atomic_load_explicit(&own_walks.walks, memory_order_relaxed);
     for (size_t i = 0; i < PLACES; i++)
-        if (&places[i] != walks)
-            atomic_store_explicit(&is_taken[i], false, memory_order_relaxed);
+        if (owner_of(i) != 0 && !is_own(i))
+            atomic_store_explicit(&owners[i], 0, memory_order_relaxed);
 }
 
 /* Where the first word lies that a walk would find changed, or 0. */

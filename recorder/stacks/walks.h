@@ -1,11 +1,16 @@
-/* Walks that have led to a stack. Each is kept with all words of the thread's own stack to which it owes what it
-   found, in their order. The next one that begins in the same frame, by the same call, and would read the same words,
-   leads to the same stack. So these are only compared: that takes two loads for each frame, and none waits for another.
+/* Walks. A walk goes from frame to frame, and finds the calls that led here, a stack of calls (stacks.h). It goes by
+   rules, which say of each instruction where the caller's frame is (unwinding.c). Here a thread keeps its walks, each
+   with all words of the thread's own stack memory that it has read, in their order. If the next walk begins in the same
+   frame, by the same call, and would read the same words, it would find the same calls. So these words are only
+   compared: that takes two loads for each frame, and none waits for another.
 
-   A thread that has walked some times takes a place for what it knows, of which 128 KiB are for 8,192 frames, and gives
-   it back at its end. It is emptied if it is full, and if rules may have changed.
+   A thread that has walked some times takes a place for its walks, of which 128 KiB are for 8,192 frames, and gives it
+   back at its end. A place is a part of a table of zeros, of which the system gives a page once that is written to:
+   nothing is allocated. It is emptied if it is full, and if rules may have changed.
 
-   Called: by unwinding.c, in the thread that walks; a handler that has interrupted it keeps nothing. */
+   Called: walks_recall by stacks.c and the rest by unwinding.c, in the thread that walks; walks_give by
+   process/threads.c, as the thread ends; walks_are_alone by process/process.c, in a forked child. No lock: a place is
+   its thread's alone, and who uses it sets `own_walks.walker`. A handler that finds that set leaves the place alone. */
 #ifndef ASANCOL_WALKS_H
 #define ASANCOL_WALKS_H
 
@@ -49,7 +54,7 @@ struct telling {
     uint16_t second, other;
 };
 
-/* Of one thread. It takes memory as it is filled. */
+/* The place of one thread. */
 struct walks {
     uint64_t generation;             /* of rules */
     uintptr_t low, size;             /* the thread's own stack: all walks begin there */
@@ -68,17 +73,19 @@ extern _Thread_local struct own_walks {
 } own_walks;
 
 /* The generation of the notes on modules' code; it counts in the upper bits. */
-enum { GENERATION_SHIFT = 48 };
+enum { GENERATION_SHIFT = ADDRESS_BITS + 1 };
 extern _Atomic uint64_t rules_generation;
 
-/* The place of this thread, once it has walked often; or null. */
+/* The place of this thread, once it has walked often; or null. `walker` is set. */
 struct walks *walks_take(void);
-/* At the end of the thread; and in the child of a fork, where other threads have none. */
+/* At the end of the thread: it has no place any more, and gets none. */
 void walks_give(void);
+/* In the child of a fork, which may be in a handler: the places of all other threads are free. */
 void walks_are_alone(void);
 
-/* Walks are gone; and also what else is known. */
+/* Forgets the walks of a place. */
 void walks_empty(struct walks *walks);
+/* And also what else is known there; from now on it is by the rules of this generation. */
 void walks_forget(struct walks *walks, uint64_t generation);
 
 #define WALK_FACTOR UINT64_C(0x9e3779b97f4a7c15)
@@ -151,7 +158,8 @@ static inline uint64_t find_walk(struct walks *walks, uintptr_t start, uintptr_t
     return 0;
 }
 
-/* The same, if it can be looked for in this frame of the recorder's. */
+/* The same, of this thread: `own` is the frame of the recorder's that asks, and stands in `walker` meanwhile. 0 also if
+   a walk of this thread was interrupted, or was left by a jump. */
 static inline uint64_t walks_recall(uintptr_t own, uintptr_t start, uintptr_t caller)
 {
     struct walks *walks = atomic_load_explicit(&own_walks.walks, memory_order_relaxed);

@@ -1,13 +1,15 @@
 """Programs for ARM (aarch64), built by a cross compiler and run under qemu: each has the report that AddressSanitizer
-has of it there. They are checked by the same program as all others."""
+has of it there. They are checked by the same program as all others. Some are drawn: ARM_DRAWS in the environment says
+how many bugs, from the seed ARM_SEED on."""
 
 import os
 import re
 import shutil
 from typing import Dict, List, NamedTuple, Optional, Tuple
 
+import arm_drawn
 from support import CC, RECORDER, TESTS, TOP, Compiler, Suite, build, expect, leave_out, run
-from testing import Later
+from testing import Later, write_text
 from testing.programs import REPORT
 
 RUN = f"{TOP}/run/asancol-run"
@@ -63,6 +65,8 @@ BUGS: Dict[str, Tuple[str, str]] = {
     "returns": ("stack-use-after-return", "returns"),
 }
 LEVELS = ("-O0", "-O2")
+# How many bugs are drawn.
+DRAWS = 24
 
 
 def compile_recorded(folder: str, sources: List[str], program: str, *flags: str) -> None:
@@ -98,13 +102,16 @@ def check_readme(suite: Suite, folder: str, library: str) -> None:
 
 
 def check_bug(suite: Suite, folder: str, program: str, sanitized: str, word: str) -> None:
-    """The class, the function and the line are those that AddressSanitizer says."""
+    """The class, the function and the line are those that AddressSanitizer says, and the stack begins in `main`."""
     kind, function = BUGS[word]
     line = line_of({"in_thread": "thread", "on_signal": "handler"}.get(function, function))
     ran = run([RUN, "--", *QEMU, program, word], folder, ASANCOL=suite.asancol)
     text = ran.stderr.decode()
     expect((first_of(BY_ASANCOL, text), ran.returncode), (Said(kind, function, line), 99), text)
     expect(text.count("ERROR: asancol"), 1, text)
+    told = told_of(text, "arm.c")
+    first = function if word in ("thread", "handler") else "main"  # a report's stack ends with its handler
+    expect(told.frames[-1][0] if told else "", first, text)
     ran = run([*QEMU, sanitized, word], folder, ASAN_OPTIONS="detect_leaks=0:detect_stack_use_after_return=1")
     text = ran.stderr.decode()
     expect(first_of(BY_SANITIZER, text), Said(kind, function, line), text)
@@ -135,6 +142,66 @@ def check_saved(suite: Suite, folder: str, program: str) -> None:
     expect(first_of(BY_ASANCOL, text), Said("heap-use-after-free", "freed", line_of("freed")), text)
 
 
+ERROR = re.compile(r"ERROR: (?:AddressSanitizer|asancol): (?:attempting )?([\w-]+)(?:: (load|store) of (\d+))?")
+ACCESS = re.compile(r"(READ|WRITE) of size (\d+) at")
+# Its size depends on where a zero lies past the buffer.
+ENDS_ANYWHERE = re.compile(r" in (?:__interceptor_)?(?:strlen|strdup|strcat)\b")
+FRAME = re.compile(r" +#(\d+) 0x\w+ in (\w+) \S*?(\w+\.c):(\d+)")
+
+
+class Told(NamedTuple):
+    """The first report of a run: its class, the access, and the function and line of each frame in the program."""
+
+    kind: str
+    access: str
+    size: str
+    frames: List[Tuple[str, int]]
+
+
+def told_of(text: str, source: str) -> Optional[Told]:
+    """What either of the two has said."""
+    lines = iter(text[text.find("ERROR: "):].splitlines())
+    error = ERROR.search(next(lines, ""))
+    if not error:
+        return None
+    kind, access, size = error[1], error[2] or "", error[3] or ""
+    frames: List[Tuple[str, int]] = []
+    next_frame = 0
+    for line in lines:
+        said, number = ACCESS.match(line), re.match(r" +#(\d+) ", line)
+        if said:
+            access, size = {"READ": "load", "WRITE": "store"}[said[1]], said[2]
+        if number:
+            if int(number[1]) != next_frame:
+                break
+            next_frame += 1
+            frame = FRAME.match(line)
+            if frame and frame[3] == source:
+                frames.append((frame[2], int(frame[4])))
+        elif next_frame > 0 and not re.match(r" +(\d+ )?\|", line):
+            break
+    size = "" if ENDS_ANYWHERE.search(text) else size
+    return Told("bad-free" if kind == "free" else kind, access, size, frames)
+
+
+def check_drawn(suite: Suite, folder: str, library: str, seed: int) -> None:
+    """Bugs that are drawn: the class, the access, its size and the frames in the program are AddressSanitizer's."""
+    drawn = arm_drawn.drawn(seed)
+    source = f"drawn_{seed}.c"
+    write_text(f"{folder}/{source}", drawn.text)
+    flags = ["-w", "-pthread", "-fsanitize-address-use-after-return=never", *drawn.flags]
+    compile_recorded(folder, [source], "recorded", *flags)
+    build([CROSS, "-g", "-w", "-pthread", "-fsanitize=address", *drawn.flags, source, "-o", "sanitized"], folder)
+    sanitized = run([*QEMU, "./sanitized"], folder, ASAN_OPTIONS="detect_leaks=0").stderr.decode().split("BUG\n")[1:]
+    expect(len(sanitized), arm_drawn.EACH, f"seed {seed}")
+    for number, wanted in enumerate(sanitized):
+        of = f"seed {seed}, bug {number}, {' '.join(drawn.flags)}"
+        ran = run([RUN, "--leaks=no", "--", *QEMU, "./recorded", str(number)], folder, ASANCOL=suite.asancol)
+        found = ran.stderr.decode()
+        expect(told_of(found, source), told_of(wanted, source), f"{of}: {found}{wanted}")
+        expect((found.count("ERROR: asancol"), ran.returncode), (1, 99), f"{of}: {found}")
+
+
 def what_is_missing() -> str:
     missing = [it for it in (CROSS, QEMU[0]) if shutil.which(it) is None]
     return " and ".join(missing)
@@ -154,6 +221,9 @@ def tests_of_all(suite: Suite) -> None:
             suite.long_test(f"arm: {word} {level}", check_bug, program, sanitized, word)
         suite.long_test(f"arm: others {level}", check_others, program)
         suite.long_test(f"arm: a saved trace {level}", check_saved, program)
+    draws, first = int(os.environ.get("ARM_DRAWS", DRAWS)), int(os.environ.get("ARM_SEED", 1))
+    for seed in range(first, first + -(-draws // arm_drawn.EACH)):
+        suite.long_test(f"arm: drawn {seed}", check_drawn, library, seed)
 
 
 def tests(suite: Suite, compiler: Compiler) -> None:
