@@ -1,5 +1,8 @@
 /* The words of ASAN_OPTIONS, LSAN_OPTIONS and of what a program says by __asan_default_options, and their properties.
-   The recorder reads them at its start: nothing of the C library is called that needs more than its arguments. */
+   The recorder reads them at its start: nothing of the C library is called that needs more than its arguments.
+
+   Called: by asan_options.c of the recorder, in the thread that starts it, and by asan.c of asancol-run; no lock: it
+   only reads the text that it is given. */
 #ifndef ASANCOL_ASAN_OPTIONS_H
 #define ASANCOL_ASAN_OPTIONS_H
 

@@ -1,4 +1,7 @@
-/* How far apart two words are: the nearest known word is suggested for an unknown one. */
+/* How far apart two words are: the nearest known word is suggested for an unknown one.
+
+   Called: by settings.c of the recorder, in the thread that starts it, and by asan.c and options.c of asancol-run; no
+   lock, and nothing is allocated. */
 #ifndef ASANCOL_DISTANCE_H
 #define ASANCOL_DISTANCE_H
 

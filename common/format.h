@@ -1,5 +1,7 @@
-/* The trace format, version 2: the one place of its numbers on the recorder's side. docs/FORMAT.md says what they
-   mean. */
+/* The trace format, version 2: the one place of its numbers on the recorder's side. docs/FORMAT.md says what they mean.
+
+   Called: the few functions by the recorder, in any thread, also in a signal handler, and by asancol-run in its one
+   thread; no lock: they only compute. Who may write which field of the side memory stands in stream/side.h. */
 #ifndef ASANCOL_FORMAT_H
 #define ASANCOL_FORMAT_H
 
@@ -212,6 +214,7 @@ enum side_skipped {
     SKIPPED_LEAKS = 4,    /* ASANCOL_LEAKS is not 1 */
     SKIPPED_FRAMES = 8,   /* an access from another stack that met a frame in a block */
     SKIPPED_SPARE = 16,   /* what a handler has allocated that had interrupted the allocator */
+    SKIPPED_BEYOND = 32,  /* accesses to memory whose addresses no trace has */
 };
 
 /* What its environment has set for it, beside the quarantine. */

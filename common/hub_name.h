@@ -1,5 +1,8 @@
 /* What a hub is called: the name of its socket, and the ends of the marks that processes leave beside that. The
-   recorder asks at any time: nothing of the C library is called. */
+   recorder asks at any time: nothing of the C library is called.
+
+   Called: by the recorder, in any thread, also in a signal handler, and by asancol-run in its one thread; no lock: only
+   the caller's room is written. */
 #ifndef ASANCOL_HUB_NAME_H
 #define ASANCOL_HUB_NAME_H
 
@@ -13,12 +16,24 @@
 #define MARK_EXPECTED "expected"
 #define MARK_KILLED "killed"
 
+/* An expected mark is made at each start of a program, so its text is short: on ext4 one of 60 bytes has a block of its
+   own, which takes 0.5 ms. A longer path stands in a link NUMBER.PROGRAM of its own, and the mark has "=NUMBER". The
+   common reason, that the process ended before its recording began, is left out. */
+enum { MARK_SHORT_PROGRAM = 40 };
+#define MARK_PROGRAM "program"
+#define MARK_PROGRAM_FRONT '='
+#define NEVER_BEGAN ""
+
 /* What a process that has lost its environment asks for beside the hub, and why one is not recorded: a request is one
    message, a word and, of one that is not recorded, two more lines with its program and why. A hub that takes the
    process for its own answers with at least a byte: with the settings, each ended by a zero, as an environment has
-   them. Then it closes. */
+   them. Then it closes.
+
+   A program that started its own run tells with which status it ends, as of waitpid, in a second line. Once the verdict
+   is printed it gets the status of the run in digits, or another text if its own applies. */
 #define ASK_SETTINGS "settings"
 #define ASK_UNSEEN "unseen"
+#define ASK_STATUS "status"
 enum { ASK_MOST = 512, SETTINGS_MOST = 8192 };
 
 /* How many of its first bytes everybody may know: a secret follows a last dash in the folder of a run. The name of a

@@ -1,7 +1,10 @@
 /* What a process under asancol-run has from it whatever its environment is: the timer slack of prctl(2), which each
    child and each program of an exec inherits. It says by how much a wait may be late, in nanoseconds. asancol-run adds
    a few microseconds to it, so that its last bits stand for the name of the hub. So a program that lost the setting can
-   find the hub in /proc/net/unix, or by its folder, and ask for its settings. */
+   find the hub in /proc/net/unix, or by its folder, and ask for its settings.
+
+   Called: by orphan.c of the recorder, in any thread, and by command.c and outer.c of asancol-run; no lock: they only
+   compute. */
 #ifndef ASANCOL_INHERITED_H
 #define ASANCOL_INHERITED_H
 

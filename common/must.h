@@ -1,4 +1,6 @@
-/* Memory that a program of ours cannot go on without. */
+/* Memory that a program of ours cannot go on without.
+
+   Called: by programs of ours alone (run, wrapper), in their one thread; no lock. Never by the recorder. */
 #ifndef ASANCOL_MUST_H
 #define ASANCOL_MUST_H
 

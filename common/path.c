@@ -1,3 +1,4 @@
+/* Stateless: the folders of PATH are tried in their order. */
 #define _GNU_SOURCE
 #include "common/path.h"
 

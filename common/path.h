@@ -1,4 +1,6 @@
-/* Where programs are. */
+/* Where programs are.
+
+   Called: by asancol-run and the wrapper, in their one thread; no lock. They allocate. */
 #ifndef ASANCOL_PATH_H
 #define ASANCOL_PATH_H
 

@@ -1,4 +1,6 @@
-/* The descriptors 0, 1 and 2. */
+/* The descriptors 0, 1 and 2.
+
+   Called: by the programs asancol-run and asancol-cc, as the first thing in main, in their one thread; no lock. */
 #ifndef ASANCOL_STANDARD_H
 #define ASANCOL_STANDARD_H
 

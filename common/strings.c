@@ -1,3 +1,4 @@
+/* An array with a null after the last item, which is made anew with each. */
 #include "common/strings.h"
 
 #include <stdlib.h>

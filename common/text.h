@@ -1,4 +1,7 @@
-/* How texts begin and end. */
+/* How texts begin and end.
+
+   Called: by the recorder, in any thread, also in a signal handler, and by the programs in their one thread; no lock:
+   it only reads. */
 #ifndef ASANCOL_TEXT_H
 #define ASANCOL_TEXT_H
 

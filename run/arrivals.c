@@ -1,3 +1,5 @@
+/* An epoll tells which connections have sent something; these are in a list, `ready`, in the order in which that was
+   seen. */
 #define _GNU_SOURCE
 #include "arrivals.h"
 

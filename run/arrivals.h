@@ -1,5 +1,7 @@
 /* Segments that wait for a checker: connections that have sent nothing yet, and what can be started, in the order in
-   which it came. A turn costs what happens in it, and not how many wait. */
+   which it came. A turn costs what happens in it, and not how many wait.
+
+   Called: by loop.c, in the one thread of asancol-run; no lock. */
 #ifndef ASANCOL_RUN_ARRIVALS_H
 #define ASANCOL_RUN_ARRIVALS_H
 

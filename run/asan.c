@@ -13,6 +13,7 @@
 #include "common/asan_options.h"
 #include "common/distance.h"
 #include "common/format.h"
+#include "common/path.h"
 #include "say.h"
 
 /* What became of a word. */
@@ -59,12 +60,29 @@ static char *escaped(const char *name)
     return text;
 }
 
-static enum done take_suppressions(struct options *options, const char *path)
+static bool is_readable_file(const char *path)
 {
     struct stat seen;
+    return stat(path, &seen) == 0 && !S_ISDIR(seen.st_mode) && access(path, R_OK) == 0;
+}
+
+/* The path of a file in the folder where the command's own file is, links followed; or null. */
+static const char *beside_command(const struct options *options, const char *name)
+{
+    char *program = path_of_program(options->self != NULL ? options->self : options->command[0], NULL);
+    char *file = program != NULL ? realpath(program, NULL) : NULL;
+    char *slash = file != NULL ? strrchr(file, '/') : NULL;
+    return slash != NULL ? path_in(file, (size_t)(slash - file), name) : NULL;
+}
+
+/* A relative path is looked for from here, and then beside the command, as AddressSanitizer does. */
+static enum done take_suppressions(struct options *options, const char *path)
+{
     if (*path == 0)
         return HARMLESS;
-    if (stat(path, &seen) != 0 || S_ISDIR(seen.st_mode) || access(path, R_OK) != 0)
+    if (*path != '/' && !is_readable_file(path))
+        path = beside_command(options, path);
+    if (path == NULL || !is_readable_file(path))
         return WITHOUT_EFFECT;
     return give(options, "suppressions", escaped(path));
 }
@@ -130,6 +148,7 @@ static enum done take_log(struct options *options, const char *path)
     return make_folders_above(path) ? give(options, "log-path", escaped(path)) : WITHOUT_EFFECT;
 }
 
+/* Gives our own option for it its value. */
 static enum done take_for_run(struct options *options, const struct asan_word *word)
 {
     switch (word->option) {
@@ -238,6 +257,7 @@ static void add_line(struct strings *lines, const char *variable, const char *fi
     strings_add(lines, line);
 }
 
+/* Takes all words of a variable, and keeps a line for those of each kind. */
 static void take_variable(struct options *options, const char *variable)
 {
     const char *at = getenv(variable);
@@ -270,9 +290,9 @@ const char *asan_hint(const char *name, size_t length)
     } known[] = {
         {"halt", "ASANCOL_HALT=1 in the environment ends each process at its first bad access"},
         {"halt_on_error", "ASANCOL_HALT=1 in the environment ends each process at its first bad access"},
-        {"detect_leaks", "is --leaks=yes meant?"},
-        {"log_path", "is --log-path meant?"},
-        {"quarantine_size_mb", "is --quarantine meant, in bytes?"},
+        {"detect_leaks", "did you mean --leaks=yes?"},
+        {"log_path", "did you mean --log-path?"},
+        {"quarantine_size_mb", "did you mean --quarantine, in bytes?"},
     };
     static char hint[160]; /* the program ends with it */
     char text[80];

@@ -1,5 +1,7 @@
 /* ASAN_OPTIONS and LSAN_OPTIONS in our own environment: common/asan_options.def says what happens to each option. What
-   the recorder takes it reads by itself, from the environment of each process. */
+   the recorder takes it reads by itself, from the environment of each process.
+
+   Called: by options.c, before anything is started, in the one thread of asancol-run; no lock. */
 #ifndef ASANCOL_RUN_ASAN_H
 #define ASANCOL_RUN_ASAN_H
 

@@ -33,6 +33,7 @@
 #include "report.h"
 #include "say.h"
 #include "segments.h"
+#include "serving.h"
 #include "signals.h"
 #include "status.h"
 #include "unchecked.h"
@@ -45,6 +46,7 @@ struct sum {
     size_t incomplete, abrupt, crashed, awaited, with_reports, recorded, marks, unchecked;
 };
 
+/* Counts a process in the sum. */
 static void add_to(struct sum *sum, const struct process *process, bool has_crashes)
 {
     struct outcome joined = segments_joined(process);
@@ -288,20 +290,24 @@ static int due_status(const struct options *options, enum report_answer answer, 
     seen.said = said_by(answer);
     seen.is_cut_short |= is_incomplete;
     int status = status_of(&seen, &statuses);
+    if (serving_is_on()) {
+        serving_answer(status);
+        return 0;
+    }
     return status == STATUS_OF_COMMAND ? end_as(end->status) : status;
 }
 
-/* One for signals, and one for what connects: a run that can take nothing in would wait for ever. A limit that can be
-   raised is, later. */
-static void need_descriptors(void)
+/* One for signals, and one for what connects: a run that can take nothing in would wait for ever. So would a served
+   program, which asks for its status while its trace is checked. A limit that can be raised is, later. */
+static void need_descriptors(bool is_served)
 {
-    enum { NEEDED = 2 };
+    enum { NEEDED = 2, NEEDED_TO_SERVE = 8 };
     struct rlimit limit;
-    int taken[NEEDED], count = 0;
+    int taken[NEEDED_TO_SERVE], count = 0, needed = is_served ? NEEDED_TO_SERVE : NEEDED;
     char allowed[64];
-    while (count < NEEDED && (taken[count] = eventfd(0, EFD_CLOEXEC)) >= 0)
+    while (count < needed && (taken[count] = eventfd(0, EFD_CLOEXEC)) >= 0)
         count++;
-    bool is_enough = count == NEEDED || errno != EMFILE;
+    bool is_enough = count == needed || errno != EMFILE;
     while (count > 0)
         close(taken[--count]);
     if (is_enough || getrlimit(RLIMIT_NOFILE, &limit) != 0 || limit.rlim_cur < limit.rlim_max)
@@ -312,16 +318,21 @@ static void need_descriptors(void)
     fail(OWN_FAILURE, "too few descriptors", allowed);
 }
 
+/* Opens what a run needs, and starts the command. Answers its number, or fails. */
 static pid_t start(const struct options *options, int *signals)
 {
     int status = 0;
     say_open(options->log);
     hub_open(options->quiet);
-    need_descriptors();
+    need_descriptors(options->served != 0);
     children_begin();
     *signals = signals_open();
-    descendants_note_inherited();
-    descendants_adopt();
+    if (options->served != 0) {
+        descendants_are_of((pid_t)options->served);
+    } else {
+        descendants_note_inherited();
+        descendants_adopt();
+    }
     report_begin(options);
     nested_note_begun();
     pid_t command = command_start(options, hub_address(), &status);
@@ -331,7 +342,7 @@ static pid_t start(const struct options *options, int *signals)
         folder_remove();
         if (status == NOT_FOUND && options->command[1] == NULL && strpbrk(options->command[0], " \t\n") != NULL)
             fail(status, options->command[0],
-                 "no such file: it is one word, and no shell takes it apart; leave out the quotes, or use sh -c");
+                 "no such file: the command is one word, and no shell splits it; omit the quotes, or use sh -c");
         fail(status, options->command[0], strerror(error));
     }
     signals_ignore_writes();

@@ -12,6 +12,7 @@
 #include "common/text.h"
 #include "marks.h"
 #include "peers.h"
+#include "serving.h"
 #include "say.h"
 
 /* How many seconds one may have connected and not asked. */
@@ -48,10 +49,17 @@ static void answer(const struct asker *asker, const char *text, size_t length)
 
 /* Who is not known to be ours gets no settings; and of another user's process that is not, its word is refused with a
    line. */
-static void take_request(const struct asker *asker, char *text)
+static void take_request(struct asker *asker, char *text)
 {
     size_t length;
     const char *settings = command_settings(&length);
+    if (is_request(text, ASK_STATUS)) {
+        if (serving_take(asker->peer.pid, text + strlen(ASK_STATUS), asker->connection))
+            asker->connection = -1; /* it is kept there */
+        else
+            answer(asker, "-", 1); /* one of the same number elsewhere keeps its status */
+        return;
+    }
     enum peer whose = peer_judge_asker(&asker->peer);
     if (is_request(text, ASK_SETTINGS) && whose == PEER_OURS)
         answer(asker, settings, length);
@@ -66,7 +74,7 @@ static void take_request(const struct asker *asker, char *text)
 }
 
 /* Answers whether it has asked, or is gone, or had its time. */
-static bool is_over(const struct asker *asker, bool is_ready)
+static bool is_over(struct asker *asker, bool is_ready)
 {
     char text[ASK_MOST + 1];
     if (!is_ready)
@@ -86,7 +94,7 @@ void asking_take(const struct pollfd *polls)
     for (size_t i = 0; i < before; i++) {
         if (!is_over(&askers[i], polls[HUB_LISTENERS + i].revents != 0))
             askers[count++] = askers[i];
-        else
+        else if (askers[i].connection >= 0)
             close(askers[i].connection);
     }
     for (size_t i = 0; i < HUB_LISTENERS; i++) {

@@ -1,5 +1,7 @@
 /* Processes that ask beside the hub: for the settings of the run, since their environment was cleaned; or they leave
-   word that they are not recorded. They wait for the answer, so that it can be seen who has started them. */
+   word that they are not recorded. They wait for the answer, so that it can be seen who has started them.
+
+   Called: by loop.c, in the one thread of asancol-run; no lock. */
 #ifndef ASANCOL_RUN_ASKING_H
 #define ASANCOL_RUN_ASKING_H
 

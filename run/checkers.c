@@ -16,6 +16,7 @@
 #include <unistd.h>
 
 #include "children.h"
+#include "end_line.h"
 #include "keep.h"
 #include "names.h"
 #include "report.h"
@@ -78,7 +79,7 @@ void checkers_begin(const struct options *options)
     if (checkers.program == NULL) {
         const char *named = getenv("ASANCOL");
         fail(OWN_FAILURE, named != NULL && *named != 0 ? named : "asancol",
-             "the program that checks is not there, or cannot be executed; the variable ASANCOL may name it");
+             "the checker is missing or cannot be executed; set ASANCOL to its path");
     }
     checkers.options = options->check;
     checkers.quarantine = options->held;
@@ -185,12 +186,25 @@ bool checker_can_wait(struct segment *segment)
            && verdict_is_clean(segment);
 }
 
+/* Starts a checker whose input is the stream that was read already. False: there are no resources now. */
+static bool start_small(struct segment *segment)
+{
+    int input = shared_open(segment->small);
+    if (input < 0 && is_shortage(errno) && segment_live_count() > 1)
+        return false;
+    if (input < 0) {
+        checker_give_up(segment, strerror(errno));
+        return true;
+    }
+    bool is_started = start(segment, input);
+    close(input);
+    return is_started;
+}
+
 bool checker_start(struct segment *segment)
 {
-    if (segment->aside >= 0) {
-        lseek(segment->aside, 0, SEEK_SET); /* unless it is a pipe */
-        return start(segment, segment->aside);
-    }
+    if (segment->small != NULL)
+        return start_small(segment);
     meet(segment);
     if (segment->cut == CUT_NONE && has_sent_nothing(segment)) {
         if (segments_take_empty(segment)) {
@@ -273,14 +287,14 @@ void checker_sum_up(struct process *process)
 }
 
 /* It is done: what nobody asks for any more is given back. The trace stays until it is known that no segment follows,
-   or what became of all. The cause says why it was not checked, or is null. */
-static void finish(struct segment *segment, const char *cause)
+   or what became of all. The cause says why it was not checked, or is null; the end line is null if it stands in the
+   verdicts. */
+static void finish(struct segment *segment, const char *cause, const struct end_line *end)
 {
     const struct outcome *outcome = &segment->outcome;
     segment_is_done(segment);
     close_one(&segment->connection);
-    close_one(&segment->aside);
-    verdict_read(segment, cause);
+    verdict_read(segment, cause, end);
     unchecked_take(segment);
     bool is_several = segments_are_several(segment->process);
     keep_end(segment, is_several || !outcome->is_settled || is_kept(outcome));
@@ -296,10 +310,15 @@ static void finish(struct segment *segment, const char *cause)
 
 bool checker_take_text(struct segment *segment, const char *text, size_t length, int status)
 {
-    if (!has_place_for_verdicts(segment) || pwrite(segment->verdicts, text, length, 0) != (ssize_t)length)
+    struct end_line end;
+    if (!end_line_of(text, length, &end))
         return false;
+    if (verdict_has_findings(segment)) { /* then the report takes the text */
+        if (!has_place_for_verdicts(segment) || pwrite(segment->verdicts, text, length, 0) != (ssize_t)length)
+            return false;
+    }
     segment->checker_status = status;
-    finish(segment, NULL);
+    finish(segment, NULL, &end);
     return true;
 }
 
@@ -307,7 +326,7 @@ void checker_give_up(struct segment *segment, const char *why)
 {
     if (segment->process->name == NULL)
         segment_name(segment);
-    finish(segment, why);
+    finish(segment, why, NULL);
 }
 
 void checker_has_ended(struct segment *segment, bool is_tee, int status)
@@ -321,5 +340,5 @@ void checker_has_ended(struct segment *segment, bool is_tee, int status)
         segment->checker_status = status;
     }
     if (segment->checker == 0 && segment->tee == 0 && segment->stage == STAGE_CHECKED)
-        finish(segment, NULL);
+        finish(segment, NULL, NULL);
 }

@@ -1,5 +1,8 @@
 /* Each recorded process has a checker: an asancol whose standard input is the connection, or has one with others
-   (shared.h). */
+   (shared.h).
+
+   Called: by loop.c for what comes, shared.c, held.c and marks.c, and by asancol-run.c at the start and the end, in the
+   one thread of asancol-run; no lock. */
 #ifndef ASANCOL_RUN_CHECKERS_H
 #define ASANCOL_RUN_CHECKERS_H
 

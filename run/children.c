@@ -27,6 +27,7 @@ static struct child *buckets[BUCKETS];
 static sigset_t mask;  /* of the started program */
 static bool pipes_end; /* SIGPIPE ends the started program, though it is ignored here */
 static char **checkers_environment;
+static int checkers_errors = STDERR_FILENO;
 
 /* Makes the environment of the checkers: this one, and huge pages for the shadow, unless it says something of them. */
 static void make_environment(void)
@@ -60,6 +61,13 @@ void children_begin(void)
     pipes_end = sigaction(SIGPIPE, NULL, &action) == 0 && action.sa_handler == SIG_DFL;
 }
 
+void children_hide_errors(void)
+{
+    int null = open("/dev/null", O_WRONLY | O_CLOEXEC);
+    if (null >= 0)
+        checkers_errors = null;
+}
+
 static struct child **bucket(pid_t number)
 {
     return &buckets[(unsigned)number % BUCKETS];
@@ -80,12 +88,12 @@ static bool give(int from, int to)
 
 /* What the child does before it becomes the program: in the memory of its parent, which waits. No signal has a handler
    here, so the system gives each its default action that is not ignored. Answers an error. */
-static int become(const struct start *start, char **environment)
+static int become(const struct start *start, char **environment, int errors)
 {
     const struct sigaction usual = {.sa_handler = SIG_DFL};
     /* Ctrl-C at the terminal ends the command, and not its check. */
     bool is_ready = setpgid(0, 0) == 0 && give(start->input, STDIN_FILENO) && give(start->output, STDOUT_FILENO)
-                    && give(STDERR_FILENO, STDERR_FILENO);
+                    && give(errors, STDERR_FILENO);
     for (size_t i = 0; is_ready && i < start->passed_count; i++)
         is_ready = give(start->passed[i], start->passed[i]);
     if (is_ready && (!pipes_end || sigaction(SIGPIPE, &usual, NULL) == 0) && sigprocmask(SIG_SETMASK, &mask, NULL) == 0)
@@ -101,7 +109,7 @@ pid_t child_start(const struct start *start)
     volatile int error = 0;
     pid_t child = vfork();
     if (child == 0) {
-        error = become(start, environment);
+        error = become(start, environment, checks ? checkers_errors : STDERR_FILENO);
         _exit(NOT_FOUND);
     }
     if (child < 0)

@@ -1,4 +1,8 @@
-/* The programs that asancol-run starts for itself, by their numbers: all other children are the command's. */
+/* The programs that asancol-run starts for itself, by their numbers: all other children are the command's.
+
+   Called: by asancol-run.c at the start, by what starts a program (checkers.c, shared.c, keep.c, report.c), and by
+   loop.c when a child has ended, in the one thread of asancol-run; no lock. A child runs in our memory up to its exec
+   (vfork), while this thread waits. */
 #ifndef ASANCOL_RUN_CHILDREN_H
 #define ASANCOL_RUN_CHILDREN_H
 
@@ -10,6 +14,9 @@ enum role { ROLE_CHECKER, ROLE_SHARED, ROLE_TEE, ROLE_REPORT };
 
 /* Notes how signals stand, before the first signal is blocked. */
 void children_begin(void);
+
+/* What checkers print goes nowhere from now on: they may live longer than who reads standard error. */
+void children_hide_errors(void);
 
 /* The kinds of started programs. */
 struct start {

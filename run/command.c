@@ -4,7 +4,7 @@
 
 #include <errno.h>
 #include <fcntl.h>
-#include <signal.h>
+#include <stdint.h>
 #include <stdio.h>
 #include <stdlib.h>
 #include <string.h>
@@ -17,11 +17,17 @@
 #include "common/text.h"
 #include "hub.h"
 #include "say.h"
+#include "serving.h"
 #include "signals.h"
 
 /* Nothing else of the command's environment changes. */
 static void set_environment(const struct options *options, const char *hub)
 {
+    char number[24];
+    snprintf(number, sizeof number, "%ju", (uintmax_t)options->served);
+    unsetenv("ASANCOL_ROOT");
+    if (options->served != 0)
+        setenv("ASANCOL_ROOT", number, 1);
     setenv("ASANCOL_HUB", hub, 1);
     unsetenv("ASANCOL_TRACE");
     unsetenv("ASANCOL_SOCKET");
@@ -75,13 +81,12 @@ const char *command_settings(size_t *length)
     return settings.text;
 }
 
-/* What it inherits also without its environment. */
-static void mark_slack(const char *hub)
+/* What it inherits also without its environment; 0: nothing. */
+static unsigned long marked_slack(const char *hub)
 {
     size_t length = hub_public_length();
     int slack = prctl(PR_GET_TIMERSLACK, 0, 0, 0, 0);
-    if (length > 0 && slack >= SLACK_STEP)
-        prctl(PR_SET_TIMERSLACK, slack_for(hub, length, (unsigned long)slack), 0, 0, 0);
+    return length > 0 && slack >= SLACK_STEP ? slack_for(hub, length, (unsigned long)slack) : 0;
 }
 
 /* That of the command, made of a copy of ours. */
@@ -102,12 +107,11 @@ static char **environment_for(const struct options *options, const char *hub)
 /* In the child, which has our memory until it is another program. */
 static _Noreturn void become(const struct options *options, const char *hub, char **environment, volatile int *error)
 {
-    mark_slack(hub);
+    unsigned long slack = marked_slack(hub);
+    if (slack != 0)
+        prctl(PR_SET_TIMERSLACK, slack, 0, 0, 0);
     signals_restore();
-    /* Whoever has started a program that became its own run knows our number alone. */
-    if (options->self != NULL)
-        prctl(PR_SET_PDEATHSIG, SIGKILL);
-    execvpe(options->self != NULL ? options->self : options->command[0], options->command, environment);
+    execvpe(options->command[0], options->command, environment);
     *error = errno;
     _exit(OWN_FAILURE);
 }
@@ -116,6 +120,10 @@ pid_t command_start(const struct options *options, const char *hub, int *status)
 {
     char **environment = environment_for(options, hub);
     note_settings(environment);
+    if (options->served != 0) {
+        serving_begin((pid_t)options->served, environment, marked_slack(hub));
+        return (pid_t)options->served;
+    }
     volatile int error = 0;
     pid_t command = vfork(); /* we wait for the exec in any case */
     if (command < 0) {

@@ -42,6 +42,14 @@ void death_note_of_parent(pid_t number, int status)
     note(number, status, false);
 }
 
+static pid_t ending; /* it has said how, and waits */
+
+void death_note_ending(pid_t number, int status)
+{
+    ending = number;
+    note(number, status, true);
+}
+
 static const struct noted *find_noted(pid_t number)
 {
     const struct noted *page = number >= 0 && number < MAX_NUMBER ? pages[number / PAGE] : NULL;
@@ -90,7 +98,7 @@ enum death death_of(pid_t number, int *status)
     *status = 0;
     if (number <= 0)
         return DEATH_NONE;
-    bool is_gone = kill(number, 0) != 0 && errno == ESRCH;
+    bool is_gone = number == ending || (kill(number, 0) != 0 && errno == ESRCH);
     if (!is_gone && !is_zombie(number, status, &has_status))
         return DEATH_NONE;
     const struct noted *found = find_noted(number);

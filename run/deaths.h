@@ -1,4 +1,6 @@
-/* How processes have ended, also those that said nothing themselves. */
+/* How processes have ended, also those that said nothing themselves.
+
+   Called: by verdict.c, marks.c, asancol-run.c and loop.c, in the one thread of asancol-run; no lock. */
 #ifndef ASANCOL_RUN_DEATHS_H
 #define ASANCOL_RUN_DEATHS_H
 
@@ -16,6 +18,8 @@ enum death {
 void death_note(pid_t number, int status);
 /* The same, as a parent has said that has waited for it. */
 void death_note_of_parent(pid_t number, int status);
+/* How a process ends that waits for its status: it counts as gone. */
+void death_note_ending(pid_t number, int status);
 /* Data on a process, by its number here, and how it ended, as of waitpid. A number that another process has by
    now reads as one that still runs. */
 enum death death_of(pid_t number, int *status);

@@ -28,6 +28,8 @@ void descendants_adopt(void)
    /proc is still that of the namespace outside, and has other numbers than the system gives us. */
 static pid_t self;
 static int column;
+/* A process that is served (serving.h): it and all below it are ours, as /proc has its number; 0: there is none. */
+static pid_t served;
 
 struct kin {
     pid_t number, parent, group; /* as /proc has them */
@@ -159,6 +161,26 @@ void descendants_note_inherited(void)
     free(all);
 }
 
+/* The number that /proc has for one of our namespace; 0: it has none. */
+static pid_t number_there(pid_t number)
+{
+    size_t count;
+    pid_t found = 0;
+    if (column == 0)
+        return number;
+    struct kin *all = read_all(&count);
+    for (size_t i = 0; i < count && found == 0; i++)
+        found = number_here(all[i].number) == number ? all[i].number : 0;
+    free(all);
+    return found;
+}
+
+void descendants_are_of(pid_t number)
+{
+    find_self();
+    served = number_there(number);
+}
+
 /* A process's environment, and a 0, by one call: an exec between two would leave a part of it. Null: nobody may know
    it. */
 static char *read_environment(pid_t number, size_t *length)
@@ -218,7 +240,12 @@ static bool is_of_command(const struct kin *child)
 /* Whether its line of parents leads to us, by one that is the command's. */
 static bool is_descendant(struct kin *all, size_t count, const struct kin *kin)
 {
-    const struct kin *child = child_above(all, count, kin);
+    for (int steps = 0; served != 0 && kin != NULL && steps < 10000; steps++) {
+        if (kin->number == served)
+            return true;
+        kin = kin->parent > 1 ? find(all, count, kin->parent) : NULL;
+    }
+    const struct kin *child = served == 0 ? child_above(all, count, kin) : NULL;
     return child != NULL && is_of_command(child);
 }
 
@@ -231,25 +258,13 @@ static enum kinship follow(pid_t number)
         snprintf(name, sizeof name, "%d", number);
         if (!read_kin(name, &kin))
             return KINSHIP_UNKNOWN;
-        if (kin.parent == self)
+        if (served != 0 && number == served)
+            return KINSHIP_OURS;
+        if (served == 0 && kin.parent == self)
             return is_of_command(&kin) ? KINSHIP_OURS : KINSHIP_NONE;
         number = kin.parent;
     }
     return KINSHIP_NONE;
-}
-
-/* The number that /proc has for one of our namespace; 0: it has none. */
-static pid_t number_there(pid_t number)
-{
-    size_t count;
-    pid_t found = 0;
-    if (column == 0)
-        return number;
-    struct kin *all = read_all(&count);
-    for (size_t i = 0; i < count && found == 0; i++)
-        found = number_here(all[i].number) == number ? all[i].number : 0;
-    free(all);
-    return found;
 }
 
 enum kinship descendants_kinship(pid_t number)
@@ -346,7 +361,7 @@ bool descendants_left(void)
 {
     char path[64], number[16];
     bool is_found = false;
-    if (!has_child())
+    if (served != 0 || !has_child())
         return false;
     snprintf(path, sizeof path, "/proc/self/task/%d/children", self);
     FILE *children = fopen(path, "re");

@@ -1,4 +1,6 @@
-/* What the command has started: of its descendants, each whose parent ends becomes a child of asancol-run. */
+/* What the command has started: of its descendants, each whose parent ends becomes a child of asancol-run.
+
+   Called: by asancol-run.c, loop.c and peers.c, in the one thread of asancol-run; no lock. */
 #ifndef ASANCOL_RUN_DESCENDANTS_H
 #define ASANCOL_RUN_DESCENDANTS_H
 
@@ -9,6 +11,8 @@
 void descendants_note_inherited(void);
 /* Becomes the parent of those whose parent ends. */
 void descendants_adopt(void);
+/* Those of a process that runs already, which is one of them, are all there are: none is ever left to us. */
+void descendants_are_of(pid_t number);
 /* Whether one is left. */
 bool descendants_left(void);
 /* Whether this process is one of them. Of one that is gone nobody knows. */

@@ -1,4 +1,6 @@
-/* The last line that a checker prints of a stream: how it ended, and the numbers of it. */
+/* The last line that a checker prints of a stream: how it ended, and the numbers of it.
+
+   Called: by checkers.c, shared.c and verdict.c, in the one thread of asancol-run; no lock. */
 #ifndef ASANCOL_RUN_END_LINE_H
 #define ASANCOL_RUN_END_LINE_H
 

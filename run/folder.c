@@ -174,6 +174,7 @@ static bool is_left_behind(int opened)
     return is_own(opened) && read_boot(boot) && strcmp(boot, its) == 0 && flock(opened, LOCK_EX | LOCK_NB) == 0;
 }
 
+/* Removes the folder of this name if a run that is gone has left it. Answers whether it was one. */
 static bool sweep_one(int base, const char *name)
 {
     int opened = open_folder(base, name);

@@ -29,10 +29,6 @@ static struct held *oldest, **end = &oldest;
 void held_begin(void)
 {
     events = epoll_create1(EPOLL_CLOEXEC);
-    if (events < 0 || shared_begin())
-        return;
-    close(events);
-    events = -1;
 }
 
 struct pollfd held_poll(void)
@@ -45,6 +41,7 @@ double held_due(void)
     return oldest != NULL ? oldest->until : INFINITY;
 }
 
+/* Adds it at the end, with its time. False: it cannot be watched. */
 static bool add(struct segment *segment)
 {
     struct held *made = must(malloc(sizeof *made));
@@ -86,6 +83,7 @@ bool held_take(struct segment *segment)
     return has_ended ? is_shared(segment) : add(segment);
 }
 
+/* Looks at one of which there is news, or whose time has come. */
 static void look(struct held *held, bool has_ended)
 {
     struct segment *segment = held->segment;

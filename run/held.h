@@ -1,5 +1,7 @@
-/* Processes that have sent their first bytes, and no fault: as long as their streams are small they get no checker.
-   One that ends soon is checked with others; one that lives on, or sends more, has a checker of its own. */
+/* Processes that have sent their first bytes, and no fault: as long as their streams are small they get no checker. One
+   that ends soon is checked with others; one that lives on, or sends more, has a checker of its own.
+
+   Called: by loop.c, in the one thread of asancol-run; no lock. */
 #ifndef ASANCOL_RUN_HELD_H
 #define ASANCOL_RUN_HELD_H
 
@@ -8,7 +10,7 @@
 
 #include "processes.h"
 
-/* Takes three descriptors. Before that, or if there are none, none is held. */
+/* Takes a descriptor. Before that, or if there is none, none is held. */
 void held_begin(void);
 /* Takes one that has sent its first bytes. False: it gets a checker of its own now. */
 bool held_take(struct segment *segment);

@@ -1,4 +1,5 @@
-/* Two sockets for recordings and two for questions. The kernel's credentials of a connection identify the process. */
+/* Four sockets: two for recordings (`listeners`) and two for questions (`asked`), of each pair one in the folder and
+   one under the abstract name. The kernel's credentials of a connection identify the process. */
 #define _GNU_SOURCE
 #include "hub.h"
 
@@ -28,6 +29,7 @@ enum { ADDRESS_ROOM = sizeof((struct sockaddr_un *)0)->sun_path };
 static char folder[ADDRESS_ROOM], address[ADDRESS_ROOM + sizeof SOCKET_END];
 static int listeners[HUB_LISTENERS] = {-1, -1}, asked[HUB_LISTENERS] = {-1, -1};
 
+/* Makes a socket that listens under this name. False: it cannot be had, as errno says. */
 static bool listen_at(int *listener, const char *text, bool is_abstract)
 {
     struct sockaddr_un name;
@@ -58,6 +60,7 @@ static void add_secret(void)
         length += (size_t)snprintf(address + length, sizeof address - length, "%02x", random[i]);
 }
 
+/* Makes the folder in this one, and the socket in it. False: it cannot be there. */
 static bool try_folder(const char *base)
 {
     static const char ends[] = FOLDER_END SOCKET_END SECRET_END;
@@ -106,7 +109,7 @@ void hub_open(bool is_quiet)
     const char *const bases[] = {getenv("TMPDIR"), getenv("XDG_RUNTIME_DIR"), "/tmp", "/dev/shm", "/var/tmp"};
     bool has_folder = false;
     if (bases[0] != NULL && !is_quiet && folder_is_open_to_all(bases[0]))
-        say("asancol-run: TMPDIR: %s: anybody may move what is in it, so the folder of the run is made elsewhere: "
+        say("asancol-run: TMPDIR: %s: anybody may move its contents, so the folder of the run is elsewhere: "
             "chmod +t", bases[0]);
     for (size_t i = 0; i < COUNT(bases) && !has_folder; i++)
         has_folder = try_folder(bases[i]);

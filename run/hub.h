@@ -1,6 +1,10 @@
-/* The sockets on which recorded processes connect: one in a private folder, and one under an abstract name, which needs
-   no folder. The kernel lists the names to which sockets were bound. The one in the folder has another name since, with
-   a secret at its end: whoever connects there has it from the command's environment. */
+/* The sockets on which recorded processes connect, and those on which they ask: of each, one in a private folder, and
+   one under an abstract name, which needs no folder. The kernel lists the names to which sockets were bound, for
+   everybody. So the socket in the folder gets another name as soon as it was bound, with a secret at its end: whoever
+   connects there has that name from the command's environment.
+
+   Called: by asancol-run.c at the start and the end, loop.c and asking.c for what connects, and others for its names
+   (command.c, report.c, nested.c, outer.c), in the one thread of asancol-run; no lock. */
 #ifndef ASANCOL_RUN_HUB_H
 #define ASANCOL_RUN_HUB_H
 
@@ -18,14 +22,15 @@ const char *hub_address(void);
 size_t hub_public_length(void);
 /* The private folder, or null. */
 const char *hub_folder(void);
-/* Their descriptors; -1 is one that is not there. */
+/* The descriptors of the HUB_LISTENERS sockets for recordings: [0] is in the folder, [1] has the abstract name; -1: it
+   is not there. The array is the hub's own, valid from hub_open on, and all -1 after hub_stop. */
 const int *hub_listeners(void);
-/* The same for those where a process asks (asking.h). */
+/* The same for the sockets on which a process asks (asking.h). */
 const int *hub_asked(void);
 /* The next connection, and who has made it. -1: there is none, errno says why. */
 struct ucred;
 int hub_accept(int listener, struct ucred *peer);
-/* Whether who connects there knows the secret. */
+/* Whether who connects to this socket knows the secret: so it is for the one in the folder. */
 bool hub_is_secret(int listener);
 /* Connects to a name. A place in its queue is waited for no longer than a minute, and so is later what it sends: then
    errno is EAGAIN. */

@@ -1,3 +1,4 @@
+/* Stateless: all goes to the stream at once. */
 #include "json.h"
 
 #include <stdint.h>

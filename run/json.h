@@ -1,4 +1,6 @@
-/* Texts and lists of JSON. */
+/* Texts and lists of JSON.
+
+   Called: by report.c and unchecked.c, in the one thread of asancol-run; no lock. */
 #ifndef ASANCOL_RUN_JSON_H
 #define ASANCOL_RUN_JSON_H
 

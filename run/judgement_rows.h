@@ -1,4 +1,6 @@
-/* How a process is judged by the facts about it: rows, and which of them applies. */
+/* How a process is judged by the facts about it: rows, and which of them applies.
+
+   Called: by verdict.c alone, which includes it, and by tests; in the one thread of asancol-run; no lock. */
 #ifndef ASANCOL_RUN_JUDGEMENT_ROWS_H
 #define ASANCOL_RUN_JUDGEMENT_ROWS_H
 
@@ -67,23 +69,23 @@ struct row {
 /* The judgement: the first row that applies counts. README.md has the same rows, and each has a test
    (tests/judge.py). crates/asan_judgement proves what they promise: tests/judged.c holds them against it. */
 static const struct row rows[] = {
-    {ANY, ANY, BY_WAIT, ALL_CAME, INCOMPLETE, "still ran at the end of asancol-run"},
+    {ANY, ANY, BY_WAIT, ALL_CAME, INCOMPLETE, "was still running at the end of asancol-run"},
     {ANY & ~CLOSED, NONE | SIGNAL | LOST | SEGMENT, BY_TIMEOUT, 0, INCOMPLETE, "was ended by --timeout"},
     {NOT_CHECKED, ANY, KILLED, 0, INCOMPLETE, "its checker was ended by CHECKER"},
     {NOT_CHECKED, ANY, 0, 0, INCOMPLETE, "its checker printed no verdict, and ended with status CHECKER"},
     {ANY, ANY, INSIDE, 0, INCOMPLETE,
-     "died in the recorder, by SIGNAL: a mistake of asancol's, or of a wrong store into its memory"},
+     "died in the recorder, by SIGNAL: a bug in asancol, or a wild store into its memory"},
     {ANY, ANY, LIMIT | LEFT_OUT | ONE_SEGMENT, 0, INCOMPLETE,
      "reached the event limit: LEFT of ALL events were not recorded, since ASANCOL_SEGMENTS is 0"},
     {ANY, ANY, LIMIT | LEFT_OUT, 0, INCOMPLETE, "reached the event limit: LEFT of ALL events were not recorded"},
     {ANY, ANY, LIMIT, 0, INCOMPLETE, "reached the event limit, and was not seen to end"},
     {ANY, ANY, OWN_CALL, 0, INCOMPLETE,
-     "ended in a call of the recorder's own, or before an exec, as by SIGKILL or a filter of system calls"},
+     "ended in a system call of the recorder, or before an exec, such as by SIGKILL or a system call filter"},
     {ANY, ANY, FINDINGS_LOST, 0, INCOMPLETE, "its recorder had no room for LOST of its findings"},
-    {ANY, ANY, LEAKS_MISSED, 0, INCOMPLETE, "leaks of it were not looked for, as if a thread does not stop"},
+    {ANY, ANY, LEAKS_MISSED, 0, INCOMPLETE, "its leaks were not looked for, such as when a thread does not stop"},
     {ANY, ANY, CONTRADICTION, 0, INCOMPLETE,
-     "what stands beside its trace contradicts itself, as after a wild store there"},
-    {CUT_OFF, NONE, GONE | NONE_MISSING, CHECKS, UNCHECKED, "no code of it was compiled by asancol-cc"},
+     "the data beside its trace are inconsistent, such as after a wild store"},
+    {CUT_OFF, NONE, GONE | NONE_MISSING, CHECKS, UNCHECKED, "none of its code was compiled by asancol-cc"},
     {CUT_OFF, NONE, GONE | NONE_MISSING | REPLACED | MAIN, 0, COMPLETE, "ran another program, by an exec in a library"},
     {CUT_OFF, NONE, GONE | NONE_MISSING | REPLACED, 0, BEFORE_MAIN, "ran another program, by an exec in a library"},
     {CUT_OFF, NONE, GONE | NONE_MISSING | MAIN, 0, UP_TO_THERE, "ended abruptly, HOW"},
@@ -96,13 +98,13 @@ static const struct row rows[] = {
     {ANY, LOST, 0, ALL_CAME, INCOMPLETE, "its recording ended early"},
     {CUT_OFF | MALFORMED, NONE, BAD_MISSING, 0, INCOMPLETE, "ended abruptly, HOW: MISSING"},
     {UNWRITTEN, NONE, FILE_ALONE, 0, INCOMPLETE,
-     "ended abruptly, as by SIGKILL, or an _exit or exec in a library, or still running"},
-    {CUT_OFF | MALFORMED, NONE, 0, FILE_ALONE, INCOMPLETE, "ended abruptly, HOW: what came last was not seen"},
+     "ended abruptly, such as by SIGKILL, or by an _exit or exec in a library, or still running"},
+    {CUT_OFF | MALFORMED, NONE, 0, FILE_ALONE, INCOMPLETE, "ended abruptly, HOW: its last events were not seen"},
     {ANY, ANY, BAD_MISSING, ALL_CAME, INCOMPLETE, "it ended: MISSING"},
     {ANY, ANY, 0, ALL_CAME, INCOMPLETE, "its trace ended as FATE"},
     {ANY, ANY, 0, BESIDE, INCOMPLETE,
-     "its findings and leaks are not known, since nothing stands beside its trace: CAUSE"},
-    {ANY, ANY, 0, CHECKS, UNCHECKED, "no code of it was compiled by asancol-cc"},
+     "its findings and leaks are unknown, since there are no data beside its trace: CAUSE"},
+    {ANY, ANY, 0, CHECKS, UNCHECKED, "none of its code was compiled by asancol-cc"},
     {ANY, SIGNAL, MAIN, 0, COMPLETE, "ended by SIGNAL"},
     {ANY, SIGNAL, BY_OTHERS, 0, UP_TO_THERE, "ended by SIGNAL before main"},
     {ANY, SIGNAL, 0, 0, BEFORE_MAIN, "ended by SIGNAL before main"},

@@ -1,4 +1,6 @@
-/* --keep: traces that stay in a folder. */
+/* --keep: traces that stay in a folder.
+
+   Called: by checkers.c, in the one thread of asancol-run; no lock. */
 #ifndef ASANCOL_RUN_KEEP_H
 #define ASANCOL_RUN_KEEP_H
 

@@ -4,6 +4,7 @@
 #include "kin.h"
 
 #include <inttypes.h>
+#include <signal.h>
 #include <stdio.h>
 #include <stdlib.h>
 
@@ -91,6 +92,7 @@ static void blame_for_children(struct process *process, uint64_t missing)
     blame(process, why);
 }
 
+/* Counts for each process how many came of the children that it has forked, and blames it for the rest. */
 static void look_for_children(void)
 {
     size_t count, unknown;
@@ -112,6 +114,39 @@ static void look_for_children(void)
             blame_for_children(process, missing);
     }
     free(parents);
+}
+
+static size_t children_of(const struct process *parent)
+{
+    const struct process *process;
+    size_t count = 0;
+    for (size_t at = 0; (process = process_next(&at)) != NULL;)
+        count += process->of_parent == parent->own_number;
+    return count;
+}
+
+/* Some children have no number, such as that of the C library's daemon: one of them may be there. */
+static bool awaits_child(const struct process *process)
+{
+    uint64_t forks = forks_of(process), numbers = 0;
+    for (const struct segment *segment = process->first; segment != NULL; segment = segment->next) {
+        for (size_t i = 0; segment->children != NULL && i < segment->children->count; i++) {
+            pid_t child = segment->children->numbers[i];
+            if (child > 0 && process_of_peer(child) == NULL && kill(child, 0) == 0)
+                return true;
+            numbers += child > 0;
+        }
+    }
+    return forks > numbers && children_of(process) < forks;
+}
+
+bool kin_awaits_child(void)
+{
+    const struct process *process;
+    for (size_t at = 0; (process = process_next(&at)) != NULL;)
+        if (awaits_child(process))
+            return true;
+    return false;
 }
 
 /* Whether the program came that the process has become. */

@@ -16,7 +16,7 @@ static void say_complete(const struct process *process, const struct outcome *jo
 {
     char segments[48] = "";
     bool is_other = joined->why[0] == 0 && joined->ending == ENDING_EXEC;
-    const char *end = is_other ? "went on as another program" : joined->why;
+    const char *end = is_other ? "continued as another program" : joined->why;
     uint64_t reports = outcome_reports(joined);
     if (joined->segments > 1)
         snprintf(segments, sizeof segments, " in %" PRIu32 " segments", joined->segments);

@@ -1,4 +1,6 @@
-/* The lines of processes, at the end of a run. */
+/* The lines of processes, at the end of a run.
+
+   Called: by asancol-run.c, at the end, in the one thread of asancol-run; no lock. */
 #ifndef ASANCOL_RUN_LINES_H
 #define ASANCOL_RUN_LINES_H
 

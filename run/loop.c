@@ -26,6 +26,7 @@
 #include "folder.h"
 #include "held.h"
 #include "hub.h"
+#include "kin.h"
 #include "marks.h"
 #include "modules.h"
 #include "peers.h"
@@ -33,8 +34,10 @@
 #include "report.h"
 #include "say.h"
 #include "segments.h"
+#include "serving.h"
 #include "shared.h"
 #include "signals.h"
+#include "status.h"
 
 /* What a process holds here while it is checked, and how many more descriptors are kept free. */
 enum { HELD_BY_PROCESS = 3, KEPT_FREE = 12 };
@@ -50,18 +53,20 @@ static const double LOOK = 1;        /* between looks at the remaining processes
 static const double SHORTAGE = 0.05; /* until a shortage is tried again */
 static const double LAST = 30;       /* after the last cut, until the rest is left alone */
 static const double PROGRESS = 2;    /* until there is a line of progress */
+static const double LINGER = 0.3;    /* until a served program is answered while others of it run on */
 static const double TOGETHER = 0.5;  /* within which two signals are one: the sender's, and that to our process group */
 
 static struct {
     const struct options *options;
-    pid_t command;
+    pid_t command;        /* 0: it has ended */
+    pid_t command_number; /* also once it has ended */
     int signals;
     double started, ended, cut; /* when; 0: not yet */
     double wait_from;           /* --wait counts from here */
     double timeout_at, kill_at; /* 0: never */
-    double short_until, look_at, progress_at;
+    double short_until, look_at, progress_at, attend_at;
     double signalled; /* when the last signal came */
-    bool is_left; /* something that the command has started */
+    bool is_left;     /* something that the command has started */
     bool has_timed_out;
     int status;
     size_t descriptors, base; /* how many there may be, and are without processes */
@@ -138,11 +143,12 @@ static void note_unknown_peer(const struct ucred *peer)
     if (is_noted)
         return;
     is_noted = true;
-    snprintf(why, sizeof why, "it is of user %u, and had ended before it was seen who has started it",
+    snprintf(why, sizeof why, "it belongs to user %u, and ended before its parent was known",
              (unsigned)peer->uid);
     add_unseen(peer->pid, why);
 }
 
+/* A new connection becomes a segment. */
 static void add_connection(int connection, const struct ucred *peer)
 {
     struct segment *segment = segment_add();
@@ -182,6 +188,14 @@ static void accept_from(int listener)
         ;
 }
 
+static void note_end_of_command(int status)
+{
+    run.status = status;
+    run.ended = run.wait_from = now();
+    run.command = 0;
+    run.look_at = 0;
+}
+
 /* Takes what has ended: the command, programs of ours, and processes that were left to us. */
 static void reap(void)
 {
@@ -192,10 +206,7 @@ static void reap(void)
         void *owner;
         if (child == run.command) {
             death_note(child, status);
-            run.status = status;
-            run.ended = run.wait_from = now();
-            run.command = 0;
-            run.look_at = 0;
+            note_end_of_command(status);
         } else if (!child_take(child, &role, &owner)) {
             death_note(child, status);
             run.look_at = 0;
@@ -231,7 +242,9 @@ static void hurry(void)
 static void read_signals(void)
 {
     bool is_repeated = now() < run.signalled + TOGETHER;
-    if (signals_read(run.signals, run.command) > 0) {
+    if (serving_is_on()) {
+        signals_read(run.signals, 0); /* it ends with those that it serves */
+    } else if (signals_read(run.signals, run.command) > 0) {
         if (run.command == 0 && !is_repeated)
             hurry();
         run.signalled = now();
@@ -243,11 +256,11 @@ static void read_signals(void)
    something. The command itself does not wait: none comes after it. False: there are no resources now. */
 static bool start_arrived(struct segment *segment)
 {
-    if (segment->aside < 0 && checker_answers(segment)) {
+    if (segment->small == NULL && checker_answers(segment)) {
         arrivals_add(segment);
         return true;
     }
-    return (segment->process->peer != run.command && held_take(segment)) || checker_start(segment);
+    return (segment->process->peer != run.command_number && held_take(segment)) || checker_start(segment);
 }
 
 static void start_arrivals(bool is_ready)
@@ -270,7 +283,7 @@ static void take_held(bool is_ready, bool hurries)
     held_look(is_ready);
     shared_start(hurries || run.ended != 0);
     while ((segment = shared_next_alone()) != NULL) {
-        if (segment->aside >= 0)
+        if (segment->small != NULL)
             arrivals_add_ready(segment);
         else
             arrivals_add(segment);
@@ -287,7 +300,7 @@ static double until_due(double seconds, bool is_short)
 }
 
 /* The polled descriptors of a turn: the same few, however many processes there are. */
-enum { SIGNALS, FIRST, SECOND, REPORT, HELD, ARRIVALS, ASKING, MOST_POLLS = ASKING + ASKING_POLLS };
+enum { SIGNALS, FIRST, SECOND, REPORT, HELD, ARRIVALS, SERVED, ASKING, MOST_POLLS = ASKING + ASKING_POLLS };
 
 /* poll refuses more entries than a process may have descriptors, and counts those that it passes over. */
 static int poll_used(struct pollfd *polls, size_t count, int timeout)
@@ -306,6 +319,13 @@ static int poll_used(struct pollfd *polls, size_t count, int timeout)
     return found;
 }
 
+static void take_end_of_served(void)
+{
+    int status;
+    if (serving_has_ended(&status))
+        note_end_of_command(status);
+}
+
 /* Waits once, at most so long, and does what there is to do. */
 static void wait_once(double seconds)
 {
@@ -316,6 +336,7 @@ static void wait_once(double seconds)
         polls[FIRST + i] = (struct pollfd){accepts ? hub_listeners()[i] : -1, POLLIN, 0};
     polls[REPORT] = report_poll();
     polls[HELD] = held_poll();
+    polls[SERVED] = serving_poll();
     polls[ARRIVALS] = is_short ? (struct pollfd){-1, 0, 0} : arrivals_poll();
     seconds = until_due(seconds, is_short);
     seconds = asking_polls(polls + ASKING, seconds);
@@ -327,6 +348,7 @@ static void wait_once(double seconds)
         read_signals();
     report_send();
     asking_take(polls + ASKING);
+    take_end_of_served();
     start_arrivals(polls[ARRIVALS].revents != 0);
     take_held(polls[HELD].revents != 0, !accepts);
     for (int i = 0; i < HUB_LISTENERS; i++)
@@ -380,6 +402,47 @@ static void refresh_left(double time)
     }
 }
 
+static bool is_done(const struct process *process)
+{
+    for (const struct segment *segment = process->first; segment != NULL; segment = segment->next)
+        if (segment->stage != STAGE_DONE)
+            return false;
+    return true;
+}
+
+/* What the served program ends with while others of it run on: each report until then counts. */
+static int early_status(void)
+{
+    const struct process *process;
+    uint64_t reports = 0;
+    for (size_t at = 0; (process = process_next(&at)) != NULL;) {
+        struct outcome joined = segments_joined(process);
+        reports += outcome_reports(&joined);
+    }
+    return reports > 0 && run.options->exitcode != 0 ? (int)run.options->exitcode : STATUS_OF_COMMAND;
+}
+
+/* Once the served program is over, the run ends with the last of the others: the program itself does not wait so
+   long, and standard error is theirs from then on. */
+static void attend_served(double time)
+{
+    const struct process *process;
+    bool is_own_done = true;
+    if (!serving_is_on() || time < run.ended + LINGER || time < run.attend_at)
+        return;
+    for (process = process_of_peer(run.command_number); process != NULL; process = process_next_of_peer(process))
+        is_own_done &= is_done(process);
+    if (serving_is_asked() && is_own_done)
+        serving_answer(early_status());
+    for (size_t at = 0; !serving_is_asked() && (process = process_next(&at)) != NULL;) {
+        if (is_done(process))
+            continue;
+        serving_follow(process->peer);
+        break;
+    }
+    run.attend_at = time + (serving_is_asked() ? SHORTAGE : LOOK);
+}
+
 static void show_progress(double time)
 {
     if (run.ended == 0 || time < run.ended + PROGRESS || time < run.progress_at)
@@ -406,16 +469,18 @@ static double do_due(void)
         run.wait_from = time; /* they wait for us, and not we for them */
     run.done = done;
     double deadline = run.wait_from + run.options->wait;
-    if (run.cut == 0 && time >= deadline)
+    attend_served(time);
+    if (run.cut == 0 && time >= deadline && !serving_is_on())
         cut_all(time);
     if (run.cut == 0 && deadline < next)
-        next = deadline;
+        next = deadline > time ? deadline : next;
     show_progress(time);
-    if (segment_live_count() > 0 && next > time + 0.2)
+    if ((segment_live_count() > 0 || serving_is_on()) && next > time + 0.2)
         next = time + 0.2;
     return next > time ? next - time : 0;
 }
 
+/* Whether there is nothing more to wait for. Long after the end of the run no new connection is taken. */
 static bool is_over(void)
 {
     if (run.ended == 0)
@@ -426,7 +491,9 @@ static bool is_over(void)
         return false;
     if (run.cut != 0 && now() > run.cut + LAST)
         hub_stop(); /* new ones might come for ever */
-    return segment_live_count() == 0 && !has_queue() && !asking_is_any();
+    if (segment_live_count() > 0 || has_queue() || asking_is_any())
+        return false;
+    return !serving_is_on() || now() > run.wait_from + run.options->wait || !kin_awaits_child();
 }
 
 static void wait_for_room(void)
@@ -508,7 +575,7 @@ static void check_files(void)
 struct collected loop_run(const struct options *options, pid_t command, int signals)
 {
     run.options = options;
-    run.command = command;
+    run.command = run.command_number = command;
     run.signals = signals;
     run.started = now();
     run.timeout_at = options->timeout > 0 ? run.started + options->timeout : 0;

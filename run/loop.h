@@ -1,4 +1,6 @@
-/* The time from the start of the command until all is checked. */
+/* The time from the start of the command until all is checked.
+
+   Called: by asancol-run.c, once for a run, in the one thread of asancol-run; no lock. */
 #ifndef ASANCOL_RUN_LOOP_H
 #define ASANCOL_RUN_LOOP_H
 

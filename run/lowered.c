@@ -37,7 +37,7 @@ static void describe(char *text, size_t room, const struct outcome *joined, cons
                  "held back %" PRIu64 " byte%s of freed memory (ASANCOL_QUARANTINE), so uses after free may be missed",
                  joined->quarantine, plural(joined->quarantine, "s"));
     else if (joined->halts && !may_halt && joined->reports > 0)
-        snprintf(text, room, "ended at its first fault (ASANCOL_HALT), so what it would have done was not seen");
+        snprintf(text, room, "ended at its first fault (ASANCOL_HALT), so later errors were not seen");
 }
 
 static void note(struct line *lines, size_t *count, const struct process *process, const char *text)
@@ -77,7 +77,7 @@ static void add_used_again(struct strings *texts)
             continue;
         bool is_large = bytes >= 1000000000;
         snprintf(line.text, sizeof line.text,
-                 "handed out freed memory again after %.1f %s of blocks, so later uses after free may be missed",
+                 "reused freed memory after %.1f %s of blocks, so later uses after free may be missed",
                  (double)bytes / (is_large ? 1e9 : 1e6), is_large ? "GB" : "MB");
         line.first = process;
     }

@@ -28,7 +28,7 @@
 /* What a mark says. */
 struct mark {
     pid_t number;
-    uint64_t made; /* nanoseconds since 1970; of one that is expected */
+    uint64_t made; /* microseconds since 1970; of one that is expected */
     char program[256], why[320];
 };
 
@@ -49,6 +49,28 @@ static void fill_in(struct mark *mark, char *text)
     snprintf(mark->why, sizeof mark->why, "%.300s", why != NULL && *why != 0 ? why : "it was not recorded");
 }
 
+/* The path of a program that stands in a link of its own, whose number this is. */
+static void find_program(int folder, const char *number, struct mark *mark)
+{
+    char name[64];
+    snprintf(name, sizeof name, "%.40s." MARK_PROGRAM, number);
+    ssize_t length = readlinkat(folder, name, mark->program, sizeof mark->program - 1);
+    mark->program[length > 0 ? length : 0] = 0;
+}
+
+/* One that is expected: its last line is the time, and the common reason is left out. */
+static void read_expected(int folder, char *text, struct mark *mark)
+{
+    char *time = last_line(text), *why = strrchr(text, '\n');
+    mark->made = time != NULL ? strtoull(time, NULL, 10) : 0;
+    fill_in(mark, text);
+    if (why != NULL && strcmp(why + 1, NEVER_BEGAN) == 0)
+        snprintf(mark->why, sizeof mark->why, "it ended before its recording began");
+    if (mark->program[0] == MARK_PROGRAM_FRONT)
+        find_program(folder, text + 1, mark);
+}
+
+/* Reads the text of a link. False: it is not a mark. */
 static bool read_mark(int folder, const char *name, struct mark *mark)
 {
     char text[512];
@@ -56,10 +78,11 @@ static bool read_mark(int folder, const char *name, struct mark *mark)
     if (length < 0)
         return false;
     text[length] = 0;
-    char *time = ends_with(name, EXPECTED) ? last_line(text) : NULL;
-    mark->number = atoi(name);
-    mark->made = time != NULL ? strtoull(time, NULL, 10) : 0;
-    fill_in(mark, text);
+    *mark = (struct mark){.number = atoi(name)};
+    if (ends_with(name, EXPECTED))
+        read_expected(folder, text, mark);
+    else
+        fill_in(mark, text);
     return true;
 }
 
@@ -110,9 +133,10 @@ static bool is_of(const struct mark *mark, const struct process *process)
 {
     if (process_is_unseen(process))
         return process->source == SOURCE_WORD;
-    return process->started == 0 || process->started > mark->made;
+    return process->started == 0 || process->started / 1000 >= mark->made;
 }
 
+/* Whether the program that a mark expects has connected. */
 static bool has_come(const struct mark *mark)
 {
     const struct process *at = process_of_peer(mark->number);
@@ -281,6 +305,7 @@ bool marks_excuse_child(const struct process *parent)
     return excuse_orphan(parent);
 }
 
+/* Goes over all marks with this end. */
 static void take_all(const char *end, void (*take)(struct mark *mark))
 {
     DIR *entries = folder_entries();

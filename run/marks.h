@@ -1,5 +1,7 @@
 /* Marks that processes leave in the folder of the hub: symbolic links with a process's number, whose text is its
-   program, a newline and why; and if the process is expected to connect, another newline and since when. */
+   program, a newline and why; and if the process is expected to connect, another newline and since when.
+
+   Called: by kin.c, asking.c and loop.c, in the one thread of asancol-run; no lock. */
 #ifndef ASANCOL_RUN_MARKS_H
 #define ASANCOL_RUN_MARKS_H
 

@@ -1,6 +1,8 @@
 /* The files of the programs and shared objects that processes run, as these have sent them: held open, so that reports
    have lines of what a test builds, runs and removes, or builds anew. A file that several processes run is held once,
-   as long as one of them may have a report. */
+   as long as one of them may have a report.
+
+   Called: by loop.c, report.c, checkers.c and side.c, in the one thread of asancol-run; no lock. */
 #ifndef ASANCOL_RUN_MODULES_H
 #define ASANCOL_RUN_MODULES_H
 

@@ -63,7 +63,7 @@ void nested_note_begun(void)
         return;
     result[0] = 0;
     if (hub_knock(outer))
-        say("asancol-run: the run round this one does not get its result: nothing can be left beside %s", outer);
+        say("asancol-run: the outer run does not get this result: no file can be made beside %s", outer);
 }
 
 void nested_take_back(void)

@@ -1,4 +1,6 @@
-/* Made by `make options` from options/asancol-run.options. */
+/* Made by `make options` from options/asancol-run.options.
+
+   Called: options.c includes it, in the one thread of asancol-run; no lock. */
 #ifndef ASANCOL_RUN_OPTION_TABLE_H
 #define ASANCOL_RUN_OPTION_TABLE_H
 
@@ -9,7 +11,7 @@
     "  --exitcode N             status if a report counts (99); 0: the command's\n" \
     "  --incomplete-exitcode N  status if the run was incomplete (98)\n" \
     "  --nothing-exitcode N     status if nothing was recorded (98); 77: test skipped\n" \
-    "  --at-least N             fewest processes that must be recorded (0)\n" \
+    "  --at-least N             least number of processes to be recorded (0)\n" \
     "  --wait S                 seconds for processes that outlive COMMAND (5)\n" \
     "  --timeout S              end COMMAND after S seconds\n" \
     "Output files:\n" \
@@ -28,7 +30,7 @@
     "  --source-root DIR        show files under DIR by their paths from there\n" \
     "  --color WHEN             colors: auto, always or never (auto)\n" \
     "  --full-stacks            print all frames of a stack, and whole names\n" \
-    "  --shadow                 print the shadow bytes round each bad byte\n" \
+    "  --shadow                 print the shadow bytes around each bad byte\n" \
     "  --unchecked HOW          unchecked code: list, no or error (list)\n" \
     "  -q, --quiet              print nothing if all is clean\n" \
     "  -v, --verbose            print a line for each process\n" \
@@ -39,14 +41,14 @@
     "  --baseline FILE          reports of this result of --json do not count\n" \
     "Checking and others:\n" \
     "  --quarantine B           bytes of freed blocks to hold (268435456)\n" \
-    "  --no-mismatches          allow a malloc to be freed by delete, and so on\n" \
+    "  --no-mismatches          allow delete of a malloc block, and the like\n" \
     "  --full                   record all mallocs and frees, not only near faults\n" \
     "  --preload                record modules of plain programs, too\n" \
     "  --memory B               most bytes that each checker may hold (no bound)\n" \
     "  --limit N                most events of a process to check (16777216)\n" \
     "  -h, --help               print this help\n" \
     "  --version                print the name and the release\n" \
-    "%p in a FILE is the process, %q{VAR} a variable. Status 125 to 127: no start.\n"
+    "%p in a FILE is the process, %q{VAR} a variable. Status 125 to 127: not started.\n"
 
 #define OPTION_DEFAULTS \
     .exitcode = 99, \
@@ -93,6 +95,7 @@
     {"limit", 0, PASS_CHECK, 0, 1, 16777216, NULL}, \
     {"files", 0, SET_FLAG, AT(are_files), 0, 0, NULL}, \
     {"self", 0, SET_INPUT, AT(self), 0, 0, NULL}, \
+    {"serve", 0, SET_NUMBER, AT(served), 1, 999999999, NULL}, \
     {"help", 'h', SHOW_HELP, 0, 0, 0, NULL}, \
     {"version", 0, SHOW_VERSION, 0, 0, 0, NULL}
 

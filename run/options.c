@@ -72,7 +72,8 @@ static const char *nearest(const char *name, size_t length)
     if (length > 40)
         return NULL;
     for (size_t i = 0; i < COUNT(table); i++) {
-        if (table[i].offset == offsetof(struct options, are_files) || table[i].offset == offsetof(struct options, self))
+        size_t offset = table[i].offset;
+        if (offset == AT(are_files) || offset == AT(self) || offset == AT(served))
             continue; /* asancol-report's or the recorder's alone */
         size_t away = edit_distance(name, length, table[i].name);
         if (length >= 3 && strncmp(name, table[i].name, length) == 0)
@@ -90,11 +91,11 @@ static _Noreturn void fail_unknown(const char *word, size_t length)
     const char *hint = word[1] == '-' ? asan_hint(word + 2, length - 2) : NULL;
     const char *name = word[1] == '-' ? nearest(word + 2, length - 2) : NULL;
     if (hint != NULL)
-        say("asancol-run: there is no option %.*s; %s", (int)length, word, hint);
+        say("asancol-run: unknown option %.*s; %s", (int)length, word, hint);
     else if (name != NULL)
-        say("asancol-run: there is no option %.*s; is --%s meant?", (int)length, word, name);
+        say("asancol-run: unknown option %.*s; did you mean --%s?", (int)length, word, name);
     else
-        say("asancol-run: there is no option %.*s", (int)length, word);
+        say("asancol-run: unknown option %.*s", (int)length, word);
     say("asancol-run --help lists the options");
     exit(OWN_FAILURE);
 }
@@ -145,7 +146,7 @@ static uint64_t number_of(const struct option *option, const char *text)
     uint64_t number;
     if (read_number(text, false, &number) && number >= option->least && number <= option->most)
         return number;
-    say("asancol-run: --%s: %s is not a number from %" PRIu64 " to %" PRIu64, option->name, text,
+    say("asancol-run: --%s: '%s' is not a number (%" PRIu64 " to %" PRIu64 ")", option->name, text,
         option->least, option->most);
     exit(OWN_FAILURE);
 }
@@ -156,7 +157,7 @@ static double seconds_of(const struct option *option, const char *text)
     uint64_t number;
     if (read_number(text, true, &number) && number >= option->least && number <= option->most * 1000)
         return (double)number / 1000;
-    say("asancol-run: --%s: %s is not a number of seconds from %s to %" PRIu64, option->name, text,
+    say("asancol-run: --%s: '%s' is not a number of seconds (%s to %" PRIu64 ")", option->name, text,
         option->least > 0 ? "0.001" : "0", option->most);
     exit(OWN_FAILURE);
 }
@@ -226,6 +227,7 @@ static void demand_alone(const char *dashed, const char *path)
     outputs[output_count++].name = must(strdup(slash + 1));
 }
 
+/* Fails if there is no such file, or folder. */
 static void demand(const char *dashed, const char *path, bool is_folder)
 {
     struct stat seen;
@@ -308,7 +310,7 @@ static void pass_word(struct options *options, const struct option *option, cons
         for (size_t i = 0, length = 0; i < place && length < sizeof words; i++)
             length += (size_t)snprintf(words + length, sizeof words - length, "%s%s", option->words[i],
                                        i + 2 < place ? ", " : i + 1 < place ? " and " : "");
-        say("asancol-run: %s: %s is not one of %s", dashed, value, words);
+        say("asancol-run: %s: '%s' is not one of %s", dashed, value, words);
         exit(OWN_FAILURE);
     }
     if (option->offset == AT(unchecked))
@@ -486,7 +488,7 @@ struct options options_read(char **argv)
         argv = take(&options, argv);
     }
     if (*argv == NULL)
-        fail(OWN_FAILURE, "there is no command", "asancol-run --help says how to use it");
+        fail(OWN_FAILURE, "no command was given", "asancol-run --help shows how");
     options.command = argv;
     if (!options.are_files) {
         take_from_outer(&options);

@@ -1,4 +1,7 @@
-/* What the command line says. */
+/* What the command line says.
+
+   Called: by asancol-run.c, once, before anything is started, and options_give by asan.c meanwhile; in the one thread
+   of asancol-run; no lock. */
 #ifndef ASANCOL_RUN_OPTIONS_H
 #define ASANCOL_RUN_OPTIONS_H
 
@@ -27,6 +30,7 @@ struct options {
     enum leaks leaks;
     const char *log;        /* or null */
     const char *self;       /* the file of the command, or null: its first word names it */
+    uint64_t served;        /* the process that runs the command by itself (serving.h), or 0 */
     const char *keep;       /* a folder, or null */
     const char *quarantine; /* as text, or null */
     uint64_t held;          /* how many bytes of freed blocks, if a process does not say otherwise */

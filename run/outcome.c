@@ -1,3 +1,4 @@
+/* The text is put together here, and kept once for all outcomes that have it (texts.h). */
 #include "outcome.h"
 
 #include <stdarg.h>

@@ -1,4 +1,6 @@
-/* The run round this one, as nested.h has it. */
+/* The run round this one, as nested.h has it.
+
+   Called: by nested.c and options.c, at the start, in the one thread of asancol-run; no lock. */
 #ifndef ASANCOL_RUN_OUTER_H
 #define ASANCOL_RUN_OUTER_H
 

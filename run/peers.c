@@ -1,3 +1,4 @@
+/* `users`: the other users as which processes of the command have connected. */
 #define _GNU_SOURCE
 #include "peers.h"
 

@@ -1,6 +1,8 @@
 /* Whose the processes are that connect. Let in is who knows the secret of the socket's path. The abstract name is
    anybody's to use: by that, processes of our user and of root are let in, and what the command has started, whoever
-   that is by now. */
+   that is by now.
+
+   Called: by loop.c and asking.c, in the one thread of asancol-run; no lock. */
 #ifndef ASANCOL_RUN_PEERS_H
 #define ASANCOL_RUN_PEERS_H
 

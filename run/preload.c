@@ -1,3 +1,4 @@
+/* One text, made of the path of the recorder and the former value. */
 #define _GNU_SOURCE
 #include "preload.h"
 

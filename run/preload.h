@@ -1,4 +1,6 @@
-/* The recorder for programs that asancol-cc did not build. */
+/* The recorder for programs that asancol-cc did not build.
+
+   Called: by options.c, before anything is started, in the one thread of asancol-run; no lock. */
 #ifndef ASANCOL_RUN_PRELOAD_H
 #define ASANCOL_RUN_PRELOAD_H
 

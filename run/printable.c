@@ -1,3 +1,4 @@
+/* The table `unprintable` of the characters that are escaped. Stateless. */
 #define _GNU_SOURCE
 #include "printable.h"
 

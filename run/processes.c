@@ -41,7 +41,7 @@ static struct process *add(void)
 struct segment *segment_add(void)
 {
     struct segment *made = must(calloc(1, sizeof *made));
-    made->connection = made->side_memory = made->verdicts = made->aside = -1;
+    made->connection = made->side_memory = made->verdicts = -1;
     made->outcome.fate = made->outcome.why = "";
     made->process = add();
     made->process->first = made;

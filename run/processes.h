@@ -1,5 +1,8 @@
 /* The recorded processes of the run, in the order in which they connected. Each has a segment for each connection, or
-   file, by which its recording came: segments.h joins them, and says what the whole process came to. */
+   file, by which its recording came: segments.h joins them, and says what the whole process came to.
+
+   Called: by loop.c and marks.c, which add, and by whoever judges or prints; in the one thread of asancol-run; no
+   lock. */
 #ifndef ASANCOL_RUN_PROCESSES_H
 #define ASANCOL_RUN_PROCESSES_H
 
@@ -30,7 +33,7 @@ struct segment {
     enum stage stage;
     enum cut cut;
     int connection, side_memory, verdicts; /* descriptors; -1: there is none */
-    int aside;                             /* the same: all of its stream, in place of the connection */
+    struct small_stream *small;            /* all of its stream, in place of the connection; or null */
     const struct side *side;               /* or null, as from when the outcome is settled */
     struct modules modules;                /* until it is done */
     pid_t checker, tee;                    /* 0: it does not run */

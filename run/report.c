@@ -198,6 +198,7 @@ static void keep_words(struct process *process)
     free(text);
 }
 
+/* The fields of JSON of an outcome. */
 static void put_outcome(FILE *to, const struct outcome *outcome)
 {
     fprintf(to,
@@ -379,6 +380,7 @@ static struct parcel *parcel_of(struct message *message)
     return message->parcel;
 }
 
+/* Sends a parcel with its descriptors. Below zero: errno says why. */
 static ssize_t send_one(const struct parcel *parcel)
 {
     union {

@@ -1,4 +1,6 @@
-/* The log, where reports and all other lines go, and the ends of a run that cannot go on. */
+/* The log, where reports and all other lines go, and the ends of a run that cannot go on.
+
+   Called: by all files here, in the one thread of asancol-run; no lock. */
 #ifndef ASANCOL_RUN_SAY_H
 #define ASANCOL_RUN_SAY_H
 

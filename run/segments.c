@@ -237,6 +237,7 @@ static uint64_t events_of(const struct outcome *outcome)
     return outcome->events - outcome->stated + outcome->left_good;
 }
 
+/* Adds what one segment has come to, to the outcome of all. */
 static void add(struct outcome *joined, const struct outcome *outcome)
 {
     joined->events += events_of(outcome);

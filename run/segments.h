@@ -1,5 +1,8 @@
 /* A process whose recording has reached the limit of events goes on in a further segment: a new connection or file,
-   with side memory that says which one it is. All of them are one process in the output. */
+   with side memory that says which one it is. All of them are one process in the output.
+
+   Called: by checkers.c, report.c, asancol-run.c, loop.c, kin.c, lines.c and lowered.c, in the one thread of
+   asancol-run; no lock. */
 #ifndef ASANCOL_RUN_SEGMENTS_H
 #define ASANCOL_RUN_SEGMENTS_H
 

@@ -1,5 +1,5 @@
-/* One batch that waits, of at most 64 streams in files without a name, and a list of those that need a checker of their
-   own. */
+/* The small streams that were seen, each with its text once a checker has read it; one batch that waits, of at most 64
+   segments; and a list of those that need a checker of their own. */
 #define _GNU_SOURCE
 #include "shared.h"
 
@@ -12,6 +12,7 @@
 #include <string.h>
 #include <sys/ioctl.h>
 #include <sys/mman.h>
+#include <sys/socket.h>
 #include <sys/stat.h>
 #include <unistd.h>
 
@@ -20,27 +21,35 @@
 #include "end_line.h"
 #include "say.h"
 
-/* The most streams that one checker takes, with a thread for each: by then its start costs little beside them. It is
-   started if no other one has come for the first number of seconds, or the first one has waited for the second. */
-enum { MOST_STREAMS = 64 };
+/* The most segments that wait for one checker. It is started if no other one has come for the first number of seconds,
+   or the first one has waited for the second. */
+enum { MOST_SEGMENTS = 64 };
 static const double LULL = 0.1, PATIENCE = 1;
+/* The most streams that are kept for later segments. Recorders send two; others come from other programs. */
+enum { MOST_KEPT = 16 };
+
+struct small_stream {
+    unsigned char bytes[SMALL_STREAM];
+    size_t size;
+    char *text; /* of a checker that has read it to an end, with its length and its status; or null */
+    size_t length;
+    int status;
+};
 
 struct batch {
-    struct segment *streams[MOST_STREAMS];
+    struct segment *segments[MOST_SEGMENTS];
     size_t count;
+    struct small_stream *streams[MOST_SEGMENTS]; /* theirs, each once */
+    size_t stream_count;
     int verdicts; /* a descriptor */
 };
 
-static int ends[2] = {-1, -1}; /* of the pipe by which streams are moved: no byte is read here */
-static struct batch *waiting;  /* or null */
+static struct small_stream *kept[MOST_KEPT];
+static size_t kept_count;
+static struct batch *waiting; /* or null */
 static double first_came, last_came;
 static struct segment *alone; /* the first that needs a checker of its own; the others by next_waiting */
 static struct segment **alone_end = &alone;
-
-bool shared_begin(void)
-{
-    return pipe2(ends, O_CLOEXEC | O_NONBLOCK) == 0;
-}
 
 void shared_add_alone(struct segment *segment)
 {
@@ -62,69 +71,73 @@ struct segment *shared_next_alone(void)
     return next;
 }
 
-/* Moves this many bytes, which are at hand. */
-static bool move(int from, int to, size_t size)
+static void add_stream(struct batch *batch, struct small_stream *stream)
 {
-    while (size > 0) {
-        ssize_t moved = splice(from, NULL, to, NULL, size, SPLICE_F_NONBLOCK);
-        if (moved == 0 || (moved < 0 && errno != EINTR))
-            return false;
-        size -= moved > 0 ? (size_t)moved : 0;
-    }
-    return true;
-}
-
-/* If the system has no memory for the pipe's pages, what came so far is read there, by a checker of its own. */
-static void let_pipe_go(struct segment *segment)
-{
-    segment->aside = ends[0];
-    close(ends[1]);
-    if (!shared_begin())
-        ends[0] = ends[1] = -1;
-    shared_add_alone(segment);
+    for (size_t i = 0; i < batch->stream_count; i++)
+        if (batch->streams[i] == stream)
+            return;
+    batch->streams[batch->stream_count++] = stream;
 }
 
 static void add_waiting(struct segment *segment)
 {
     if (waiting == NULL)
         waiting = must(calloc(1, sizeof *waiting));
-    waiting->streams[waiting->count++] = segment;
+    waiting->segments[waiting->count++] = segment;
+    add_stream(waiting, segment->small);
     last_came = now();
     if (waiting->count == 1)
         first_came = last_came;
-    if (waiting->count == MOST_STREAMS)
+    if (waiting->count == MOST_SEGMENTS)
         shared_start(true);
 }
 
-/* A file with room for this many bytes, or -1. */
-static int make_file(size_t size)
+/* The kept one of the same bytes, or a new one. */
+static struct small_stream *stream_of(const struct small_stream *seen)
 {
-    int made = ends[0] >= 0 ? memfd_create("trace", MFD_CLOEXEC) : -1;
-    if (made < 0 || fallocate(made, 0, 0, (off_t)size) == 0)
-        return made;
-    close(made);
-    return -1;
+    for (size_t i = 0; i < kept_count; i++)
+        if (kept[i]->size == seen->size && memcmp(kept[i]->bytes, seen->bytes, seen->size) == 0)
+            return kept[i];
+    struct small_stream *made = must(malloc(sizeof *made));
+    *made = *seen;
+    if (kept_count < MOST_KEPT)
+        kept[kept_count++] = made;
+    return made;
 }
 
 bool shared_take(struct segment *segment)
 {
+    struct small_stream seen = {.size = 0};
     int size = 0;
-    if (ioctl(segment->connection, FIONREAD, &size) != 0)
+    if (ioctl(segment->connection, FIONREAD, &size) != 0 || size > SMALL_STREAM)
         return false;
-    int made = make_file((size_t)size);
-    if (made < 0)
-        return false;
-    bool is_moved = move(segment->connection, ends[1], (size_t)size) && move(ends[0], made, (size_t)size);
+    while (seen.size < (size_t)size) {
+        ssize_t got = recv(segment->connection, seen.bytes + seen.size, (size_t)size - seen.size, MSG_DONTWAIT);
+        if (got == 0 || (got < 0 && errno != EINTR))
+            break;
+        seen.size += got > 0 ? (size_t)got : 0;
+    }
     close(segment->connection);
     segment->connection = -1;
-    if (is_moved) {
-        segment->aside = made;
+    struct small_stream *stream = segment->small = stream_of(&seen);
+    if (stream->text == NULL || !checker_take_text(segment, stream->text, stream->length, stream->status))
         add_waiting(segment);
-    } else {
-        close(made);
-        let_pipe_go(segment);
-    }
     return true;
+}
+
+int shared_open(const struct small_stream *stream)
+{
+    int ends[2];
+    if (pipe2(ends, O_CLOEXEC) != 0)
+        return -1;
+    bool is_written = write(ends[1], stream->bytes, stream->size) == (ssize_t)stream->size;
+    int error = errno;
+    close(ends[1]);
+    if (is_written)
+        return ends[0];
+    close(ends[0]);
+    errno = error;
+    return -1;
 }
 
 double shared_due(void)
@@ -134,14 +147,13 @@ double shared_due(void)
     return last_came + LULL < first_came + PATIENCE ? last_came + LULL : first_came + PATIENCE;
 }
 
-static bool start(struct batch *batch)
+/* Starts a checker of these inputs, for a batch. */
+static bool start_over(struct batch *batch, const int *inputs)
 {
-    static char names[MOST_STREAMS][sizeof "/proc/self/fd/" + 10];
-    static int files[MOST_STREAMS];
+    static char names[MOST_SEGMENTS][sizeof "/proc/self/fd/" + 10];
     struct strings argv = checkers_words();
-    for (size_t i = 0; i < batch->count; i++) {
-        files[i] = batch->streams[i]->aside;
-        snprintf(names[i], sizeof names[i], "/proc/self/fd/%d", files[i]);
+    for (size_t i = 0; i < batch->stream_count; i++) {
+        snprintf(names[i], sizeof names[i], "/proc/self/fd/%d", inputs[i]);
         strings_add(&argv, names[i]);
     }
     const struct start start = {
@@ -149,13 +161,26 @@ static bool start(struct batch *batch)
         .owner = batch,
         .program = checkers_program(),
         .argv = argv.items,
-        .input = files[0],
+        .input = inputs[0],
         .output = batch->verdicts,
-        .passed = files,
-        .passed_count = batch->count,
+        .passed = inputs,
+        .passed_count = batch->stream_count,
     };
     bool is_started = child_start(&start) != 0;
     free(argv.items);
+    return is_started;
+}
+
+/* Starts the asancol of a batch. False: there are no resources now. */
+static bool start(struct batch *batch)
+{
+    int inputs[MOST_SEGMENTS];
+    size_t count = 0;
+    while (count < batch->stream_count && (inputs[count] = shared_open(batch->streams[count])) >= 0)
+        count++;
+    bool is_started = count == batch->stream_count && start_over(batch, inputs);
+    while (count > 0)
+        close(inputs[--count]);
     return is_started;
 }
 
@@ -163,7 +188,7 @@ static bool start(struct batch *batch)
 static void give_up(struct batch *batch)
 {
     for (size_t i = 0; i < batch->count; i++)
-        shared_add_alone(batch->streams[i]);
+        shared_add_alone(batch->segments[i]);
     free(batch);
 }
 
@@ -173,7 +198,7 @@ void shared_start(bool hurries)
     if (batch == NULL || (!hurries && now() < shared_due()))
         return;
     waiting = NULL;
-    batch->verdicts = batch->count > 1 ? memfd_create("verdicts", MFD_CLOEXEC) : -1;
+    batch->verdicts = memfd_create("verdicts", MFD_CLOEXEC);
     if (batch->verdicts < 0) {
         give_up(batch);
     } else if (!start(batch)) {
@@ -181,7 +206,7 @@ void shared_start(bool hurries)
         give_up(batch);
     } else {
         for (size_t i = 0; i < batch->count; i++)
-            batch->streams[i]->stage = STAGE_CHECKED;
+            batch->segments[i]->stage = STAGE_CHECKED;
     }
 }
 
@@ -219,19 +244,36 @@ static bool is_read(const char *text, size_t length)
     return end_line_of(text, length, &end) && (strcmp(end.fate, "closed") == 0 || strcmp(end.fate, "no-close") == 0);
 }
 
+/* Keeps what a checker has printed of each stream that it has read to an end. */
+static void take_texts(struct batch *batch, int status)
+{
+    char *all = read_all(batch->verdicts);
+    const char *at = all;
+    for (size_t i = 0; i < batch->stream_count; i++) {
+        struct small_stream *stream = batch->streams[i];
+        size_t length;
+        char *text = take_lines(&at, i, &length);
+        if (stream->text == NULL && is_read(text, length)) {
+            stream->text = text;
+            stream->length = length;
+            stream->status = status;
+        } else {
+            free(text);
+        }
+    }
+    free(all);
+}
+
 void shared_has_ended(void *ended, int status)
 {
     struct batch *batch = ended;
-    char *all = read_all(batch->verdicts);
-    const char *at = all;
+    take_texts(batch, status);
     close(batch->verdicts);
     for (size_t i = 0; i < batch->count; i++) {
-        size_t length;
-        char *text = take_lines(&at, i, &length);
-        if (!is_read(text, length) || !checker_take_text(batch->streams[i], text, length, status))
-            shared_add_alone(batch->streams[i]);
-        free(text);
+        struct segment *segment = batch->segments[i];
+        const struct small_stream *stream = segment->small;
+        if (stream->text == NULL || !checker_take_text(segment, stream->text, stream->length, stream->status))
+            shared_add_alone(segment);
     }
-    free(all);
     free(batch);
 }

@@ -1,6 +1,8 @@
-/* One checker for many small streams. A stream that has ended goes into a file without a name, where it waits for
-   others; then one asancol checks all of them. Its text of a stream is what a checker of its own would print, whatever
-   became of the others. What it did not read to an end is checked again, by a checker of its own. */
+/* One checker for many small streams. The text of a stream follows from its bytes alone, as is proved: so streams of
+   the same bytes are checked once in a run. Those that differ, and have ended, wait for each other and have one
+   asancol. What that does not read to an end is checked again, for each segment by a checker of its own.
+
+   Called: by loop.c, held.c and checkers.c, in the one thread of asancol-run; no lock. */
 #ifndef ASANCOL_RUN_SHARED_H
 #define ASANCOL_RUN_SHARED_H
 
@@ -11,10 +13,10 @@
 /* A stream of this many bytes is small: the header and the close. No event finds room in them. */
 enum { SMALL_STREAM = HEADER_LENGTH + 1 };
 
-/* Makes what streams are moved by. False: it can't be made, and no checker is shared. */
-bool shared_begin(void);
-/* Moves all of a small stream whose process has ended. False: it can't be moved, and still is where it was. */
+/* Takes all of a small stream whose process has ended. False: it is not small. */
 bool shared_take(struct segment *segment);
+/* The bytes of a stream, as the input of a checker: a descriptor, or -1. */
+int shared_open(const struct small_stream *stream);
 /* When the next checker is to be started, as now() says it; or INFINITY. */
 double shared_due(void);
 /* Starts a checker of all that wait, if that is due, or there is hurry. */

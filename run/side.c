@@ -1,5 +1,5 @@
-/* The first 8 KiB are mapped, read-only, of a memory that is sealed against shrinking; each number in it is bounded
-   when it is read. */
+/* The first 8 KiB are mapped, read-only, of a memory that is sealed against shrinking; those of a file are copied. The
+   process may write there at any time: each number is read once, and bounded here or by whoever uses it. */
 #define _GNU_SOURCE
 #include "side.h"
 

@@ -1,4 +1,6 @@
-/* The side memory of a process: what the recorder says of it beside its trace. */
+/* The side memory of a process: what the recorder says of it beside its trace.
+
+   Called: by checkers.c, verdict.c, processes.c and segments.c, in the one thread of asancol-run; no lock. */
 #ifndef ASANCOL_RUN_SIDE_H
 #define ASANCOL_RUN_SIDE_H
 

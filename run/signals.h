@@ -1,4 +1,7 @@
-/* Signals to asancol-run: they are blocked, and read from a descriptor. */
+/* Signals to asancol-run: they are blocked, and read from a descriptor.
+
+   Called: by asancol-run.c and loop.c, in the one thread of asancol-run; no lock. signals_restore also by command.c, in
+   the child of vfork before its exec. There is no handler: what a signal asks for is done when the loop reads it. */
 #ifndef ASANCOL_RUN_SIGNALS_H
 #define ASANCOL_RUN_SIGNALS_H
 

@@ -1,4 +1,6 @@
-/* Which status a run ends with: asancol-run(1) has the rows, under STATUS. */
+/* Which status a run ends with: asancol-run(1) has the rows, under STATUS.
+
+   Called: by asancol-run.c, once, at the end, in the one thread of asancol-run; no lock. */
 #ifndef ASANCOL_RUN_STATUS_H
 #define ASANCOL_RUN_STATUS_H
 

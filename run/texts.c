@@ -1,3 +1,4 @@
+/* A search tree of texts (tsearch). */
 #define _GNU_SOURCE
 #include "texts.h"
 

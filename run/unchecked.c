@@ -58,6 +58,7 @@ static void take_line(char *line)
         add(&unchecked.own, line);
 }
 
+/* Takes the kinds of checks that a process has left out, as names of their own. */
 static void take_skipped(uint64_t skipped)
 {
     static const struct {
@@ -68,7 +69,8 @@ static void take_skipped(uint64_t skipped)
         {SKIPPED_RETURNS, "uses after return (ASANCOL_USE_AFTER_RETURN=0)"},
         {SKIPPED_LEAKS, "leaks (ASANCOL_LEAKS is not 1)"},
         {SKIPPED_FRAMES, "frames in a block, from another stack"},
-        {SKIPPED_SPARE, "blocks from a signal handler in the middle of an allocation"},
+        {SKIPPED_SPARE, "blocks from a signal handler that interrupted the allocator"},
+        {SKIPPED_BEYOND, "accesses at addresses that no trace has"},
     };
     for (size_t i = 0; i < sizeof names / sizeof *names; i++)
         if (skipped & names[i].what)

@@ -1,4 +1,6 @@
-/* The unchecked code of the processes, as their recorders list it: each name once. */
+/* The unchecked code of the processes, as their recorders list it: each name once.
+
+   Called: by asancol-run.c, checkers.c and report.c, in the one thread of asancol-run; no lock. */
 #ifndef ASANCOL_RUN_UNCHECKED_H
 #define ASANCOL_RUN_UNCHECKED_H
 

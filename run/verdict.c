@@ -57,7 +57,7 @@ static void put_how(const struct segment *segment, char *room, size_t size)
     else if (death == DEATH_SEEN)
         snprintf(room, size, "with status %d", WEXITSTATUS(status));
     else
-        snprintf(room, size, "as by SIGKILL, or an _exit or exec in a library");
+        snprintf(room, size, "such as by SIGKILL, or by an _exit or exec in a library");
 }
 
 static void put_missing(const struct segment *segment, char *room, size_t size)
@@ -139,6 +139,7 @@ static void put_word(const struct segment *segment, const char *word, size_t len
     snprintf(room, size, "%.*s", (int)length, word);
 }
 
+/* Puts the words in capitals into the reason of a row, and sets the outcome. */
 static void say_why(struct segment *segment, enum answer answer, const char *text)
 {
     static const char capitals[] = "ABCDEFGHIJKLMNOPQRSTUVWXYZ_";
@@ -154,6 +155,7 @@ static void say_why(struct segment *segment, enum answer answer, const char *tex
     outcome_set(&segment->outcome, answer, "%s", made);
 }
 
+/* The fate of a stream as a bit of judgement_rows.h. */
 static unsigned fate_of(const struct segment *segment)
 {
     static const struct {
@@ -285,6 +287,12 @@ bool verdict_is_clean(const struct segment *segment)
     struct side_progress progress = side_progress(segment->side);
     uint64_t shown = progress.findings - (leaks_count ? 0 : progress.leaks);
     return progress.needed == 1 && progress.noted == 0 && progress.inside == 0 && shown == 0;
+}
+
+bool verdict_has_findings(const struct segment *segment)
+{
+    struct side_progress progress = side_progress(segment->side);
+    return progress.findings != 0 || progress.leaks != 0 || progress.leaks_missed != 0;
 }
 
 bool verdict_is_at_end(const struct segment *segment)
@@ -444,6 +452,7 @@ static bool is_settled(struct segment *segment, unsigned fate, unsigned facts)
            && !may_take_back(segment);
 }
 
+/* Reads the side memory, and judges by the first row that fits. */
 static void judge(struct segment *segment)
 {
     struct outcome *outcome = &segment->outcome;
@@ -471,20 +480,22 @@ static bool goes_on_with_zero(const char *trace, uint64_t offset)
     return is_read && byte == 0;
 }
 
-static void read_end_line(struct segment *segment)
+static void read_end_line(struct segment *segment, const struct end_line *said)
 {
     struct end_line end;
     struct outcome *outcome = &segment->outcome;
-    bool is_read = end_line_find(segment->verdicts, &end);
+    bool is_read = said != NULL || end_line_find(segment->verdicts, &end);
+    if (said != NULL)
+        end = *said;
     outcome->events = end.events;
     outcome->reports = end.reports;
     segment->is_unwritten = segment->trace != NULL && goes_on_with_zero(segment->trace, end.offset);
     outcome->fate = text_kept(is_read ? end.fate : "not-checked");
 }
 
-void verdict_read(struct segment *segment, const char *cause)
+void verdict_read(struct segment *segment, const char *cause, const struct end_line *end)
 {
-    read_end_line(segment);
+    read_end_line(segment, end);
     judge(segment);
     if (cause == NULL)
         return;

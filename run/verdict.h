@@ -1,20 +1,26 @@
-/* What came of a process: its end line, and whether it was complete. */
+/* What came of a process: its end line, and whether it was complete.
+
+   Called: by checkers.c, which judges, and by asancol-run.c, held.c, segments.c, marks.c and report.c, in the one
+   thread of asancol-run; no lock. */
 #ifndef ASANCOL_RUN_VERDICT_H
 #define ASANCOL_RUN_VERDICT_H
 
 #include <stdbool.h>
 
+#include "end_line.h"
 #include "processes.h"
 
 /* Whether leaks are findings as any other, and are not only summed up; and whether a process that does not look for
    mismatches of functions that allocate and free, or for uses after return, has to be named. */
 void verdict_begin(bool counts_leaks, bool wants_mismatches, bool wants_returns);
-/* Of one with a side memory: whether nothing bad stands there that a report would show; and whether it has ended by an
-   exit or an exec. */
+/* Of one with a side memory: whether nothing bad stands there that a report would show; whether anything stands there
+   that asancol-report is told, as leaks that are only summed up; and whether it has ended by an exit or an exec. */
 bool verdict_is_clean(const struct segment *segment);
+bool verdict_has_findings(const struct segment *segment);
 bool verdict_is_at_end(const struct segment *segment);
-/* Reads what its checker has printed, and judges. The cause says why it was not checked; null: it was. */
-void verdict_read(struct segment *segment, const char *cause);
+/* Reads the end line of its checker, from its verdicts or as it stands here, and judges. The cause says why it was not
+   checked; null: it was. */
+void verdict_read(struct segment *segment, const char *cause, const struct end_line *end);
 /* Judges the unsettled again: how it ended, and how many events were left out. True if this has changed
    something. */
 bool verdict_again(struct segment *segment);

@@ -1,5 +1,5 @@
-/* Goes up to the first asancol-run among at most 64 processes, and reads ASANCOL_HUB from /proc/PID/environ of those
-   below it. */
+/* Collects the numbers of at most 64 ancestors, up to the first that is called asancol-run. Then it reads ASANCOL_HUB
+   from /proc/PID/environ of each of them, the parent first and that asancol-run last: it may run in another run. */
 #define _GNU_SOURCE
 #include "environment/ancestors.h"
 
@@ -36,6 +36,7 @@ static bool take_byte(struct entry *entry, char byte)
     return is_hub;
 }
 
+/* Opens /proc/PROCESS/WHAT for the caller, who closes it. Below zero: it cannot be opened. */
 static int open_of(pid_t process, const char *what)
 {
     char path[PATH_ROOM], digits[DIGITS_ROOM];
@@ -46,6 +47,7 @@ static int open_of(pid_t process, const char *what)
     return system_open(path, O_RDONLY | O_CLOEXEC, 0);
 }
 
+/* Reads the environment up to the entry of the hub. False: it has none, or cannot be read. */
 static bool read_hub(pid_t process, struct entry *entry)
 {
     char piece[PIECE];
@@ -66,6 +68,7 @@ struct known {
     bool is_run;
 };
 
+/* By /proc/PID/stat: "NUMBER (NAME) STATE PARENT ..". */
 static struct known known_of(pid_t process)
 {
     static const char name[] = " (asancol-run";

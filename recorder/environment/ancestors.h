@@ -1,6 +1,9 @@
-/* The processes above this one: who has cleared this one's environment has had it itself, or who has started that.
+/* The hubs of the processes above this one. Somebody has cleared this process's environment; an ancestor may still have
+   ASANCOL_HUB in its own.
 
-   Called: by orphan.c; no lock, and nothing is allocated. */
+   Called: by orphan.c, in the thread that starts the recorder or loads a shared object of asancol-cc; if the recorder
+   is preloaded, in the first thread that executes checks, perhaps in a signal handler. Lock: it takes none, and asks
+   for none: it reads /proc, and writes nothing but its own frame. */
 #ifndef ASANCOL_ANCESTORS_H
 #define ASANCOL_ANCESTORS_H
 
@@ -8,8 +11,9 @@
 
 #include "base/platform.h"
 
-/* If one of them is called asancol-run: calls this, from below up to that, with the hub that each has had in its
-   environment when it began, until it answers true. Answers whether it has. */
+/* Calls `take` with the hub that an ancestor had in its environment when it began, and with `why`: from the parent up
+   to the first asancol-run, and no further. It ends when `take` answers true, and then answers true. False too if none
+   of the nearest 64 ancestors is called asancol-run: then `take` is not called. */
 bool ancestors_hubs(bool (*take)(const char *hub, const char *why), const char *why) OWN_NAME(ancestors_hubs);
 
 #endif

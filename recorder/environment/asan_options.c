@@ -1,5 +1,6 @@
-/* Four texts, kept by address, of which the last word for an option counts; and the lines that go beside the trace,
-   made once at the start. */
+/* Four texts, of which the last word for an option counts. They are kept by address, and looked at only at the start:
+   later the program may write over its environment. By then it is noted which calls are not checked, and which lines go
+   beside the trace. */
 #include "environment/asan_options.h"
 
 #include "base/platform.h"
@@ -10,16 +11,17 @@ VISIBLE const char *__lsan_default_options(void);
 VISIBLE const char *__asan_default_suppressions(void);
 VISIBLE const char *__lsan_default_suppressions(void);
 
-/* In the order in which AddressSanitizer reads them: the last word counts. Written at the start. */
+/* In the order in which AddressSanitizer reads them. Written and read at the start. */
 enum { OF_ASAN, OF_LSAN, IN_ASAN, IN_LSAN, TEXTS };
 static const char *texts[TEXTS];
 
-/* Less than there is room for beside a trace. */
+/* What asan_options_lines answers: less than there is room for beside a trace. */
 static struct {
     char text[4096];
     size_t length;
 } lines;
 
+/* The last word for an option, in all four texts. False: there is none. */
 static bool find(enum asan_option option, struct asan_word *found)
 {
     struct asan_word word;
@@ -39,6 +41,55 @@ bool asan_options_say(enum asan_option option, bool otherwise)
     if (!find(option, &word))
         return otherwise;
     return otherwise ? !asan_is_no(&word) : asan_is_yes(&word);
+}
+
+/* The functions whose checks an option turns off. A form of them, as __memcpy_chk, is not named. */
+static const struct {
+    enum asan_option option;
+    const char *names; /* each between blanks */
+} checks_of_calls[] = {
+    {ASAN_replace_intrin, " memcpy mempcpy memmove memset bzero "},
+    {ASAN_replace_str, " strcat strncat strcpy strncpy strdup strtol strtoll atoi atol atoll "},
+    {ASAN_intercept_memcmp, " memcmp bcmp "},
+    {ASAN_intercept_memmem, " memmem "},
+    {ASAN_intercept_send, " send sendto sendmsg sendmmsg "},
+    {ASAN_intercept_stat, " stat lstat fstat fstatat xstat lxstat fxstat fxstatat statx "},
+    {ASAN_intercept_strchr, " strchr index strchrnul strrchr rindex "},
+    {ASAN_intercept_strcmp, " strcmp strncmp strcasecmp strncasecmp "},
+    {ASAN_intercept_strlen, " strlen strnlen "},
+    {ASAN_intercept_strndup, " strndup "},
+    {ASAN_intercept_strpbrk, " strpbrk "},
+    {ASAN_intercept_strspn, " strspn strcspn "},
+    {ASAN_intercept_strstr, " strstr strcasestr "},
+    {ASAN_intercept_strtok, " strtok strtok_r "},
+};
+
+static bool are_unchecked[sizeof checks_of_calls / sizeof *checks_of_calls]; /* the functions of the row */
+
+/* Whether a name is among these, each of which is between blanks. */
+static bool is_listed(const char *names, const char *name, size_t length)
+{
+    while (*names++ != 0) {
+        size_t listed = strcspn(names, " ");
+        if (listed == length && strncmp(names, name, length) == 0)
+            return true;
+        names += listed;
+    }
+    return false;
+}
+
+bool asan_options_check_call(const char *name)
+{
+    static const char form[] = "_chk";
+    while (*name == '_')
+        name++;
+    size_t length = strlen(name);
+    if (length > strlen(form) && strcmp(name + length - strlen(form), form) == 0)
+        length -= strlen(form);
+    for (size_t i = 0; i < sizeof checks_of_calls / sizeof *checks_of_calls; i++)
+        if (are_unchecked[i] && is_listed(checks_of_calls[i].names, name, length))
+            return false;
+    return true;
 }
 
 uint64_t asan_options_level(enum asan_option option, uint64_t most, uint64_t otherwise)
@@ -82,7 +133,8 @@ static void add_line(const char *front, const char *text, size_t length, const c
     add("\n", 1);
 }
 
-/* An option of the run that a process can't change. That leaks are looked for is the run's own default. */
+/* An option of the run that has no effect if a single process gives it. Of the others of the run, a process can turn
+   leaks off for itself and set its own quarantine, and two change only how reports are shown. */
 static bool is_of_run_alone(const struct asan_word *word)
 {
     return word->fate == ASAN_IS_RUN && word->option != ASAN_detect_leaks && word->option != ASAN_quarantine_size_mb
@@ -90,6 +142,8 @@ static bool is_of_run_alone(const struct asan_word *word)
            && word->option != ASAN_strip_path_prefix;
 }
 
+/* Adds the options of a text that have no effect. asancol-run names those of the environment itself (run/asan.c), so
+   this is for the program's own texts. */
 static void name_without_effect(const char *text, const char *back)
 {
     struct asan_word word;
@@ -122,6 +176,8 @@ void asan_options_read(const char *asan, const char *lsan)
     texts[OF_LSAN] = text_or_none(__lsan_default_options());
     texts[IN_ASAN] = text_or_none(asan);
     texts[IN_LSAN] = text_or_none(lsan);
+    for (size_t i = 0; i < sizeof are_unchecked; i++)
+        are_unchecked[i] = !asan_options_say(checks_of_calls[i].option, true);
     name_without_effect(texts[OF_ASAN], " (__asan_default_options)");
     name_without_effect(texts[OF_LSAN], " (__lsan_default_options)");
     add_suppressions(__asan_default_suppressions());

@@ -67,9 +67,21 @@ static long read_answer(int descriptor, char *answer, size_t room, int patience_
     }
 }
 
+bool is_asked_at(const char *hub)
+{
+    int patience_ms = 0, made = connect_to(hub, &patience_ms);
+    if (made >= 0)
+        system_close(made);
+    return made != -ECONNREFUSED && made != -ENOENT;
+}
+
 long ask(const char *hub, const char *request, bool trusting, char *answer, size_t room)
 {
-    int patience_ms = ASK_PATIENCE_MS;
+    return ask_for(hub, request, trusting, answer, room, ASK_PATIENCE_MS);
+}
+
+long ask_for(const char *hub, const char *request, bool trusting, char *answer, size_t room, int patience_ms)
+{
     int made = connect_to(hub, &patience_ms);
     if (made < 0)
         return made;

@@ -1,5 +1,9 @@
-/* What listens beside a hub: it gives settings to a process that has lost its environment, and takes word of one that
-   is not recorded. Linked into programs and into shared objects, and called at any time. */
+/* Questions to the socket that listens beside a hub. A process that has lost its environment gets its settings there;
+   one that is not recorded says so.
+
+   Called: by orphan.c and hub_word.c, and connect_patiently and is_trusted by the stream (output.c), in programs and in
+   shared objects; in any thread, also in a signal handler. Lock: it takes none; the caller may have the allocator's and
+   the stream's, and keeps them for as long as it waits. Nothing is allocated. */
 #ifndef ASANCOL_ASKING_H
 #define ASANCOL_ASKING_H
 
@@ -21,5 +25,10 @@ bool is_trusted(int descriptor) OWN_NAME(is_trusted);
 /* Sends a request, and waits until the hub has closed, at most so long. Answers how many bytes came: 0 if the hub does
    not take the process for its own; -EACCES: with `trusting`, who listens is another user; or another error. */
 long ask(const char *hub, const char *request, bool trusting, char *answer, size_t room) OWN_NAME(ask);
+/* The same, and waits so long. */
+long ask_for(const char *hub, const char *request, bool trusting, char *answer, size_t room, int patience_ms)
+    OWN_NAME(ask_for);
+/* Whether somebody listens there, as far as this process can see. */
+bool is_asked_at(const char *hub) OWN_NAME(is_asked_at);
 
 #endif

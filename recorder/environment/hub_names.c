@@ -1,3 +1,4 @@
+/* Pure functions: a text grows in the caller's room (struct joined). */
 #define _GNU_SOURCE
 #include "environment/hub_names.h"
 

@@ -1,5 +1,8 @@
-/* What a process and its hub call each other: the socket, and the marks that processes leave beside it. Linked into
-   programs and into shared objects, and called at any time: nothing of the C library is. */
+/* What a process and its hub call each other: the socket, and the marks that processes leave beside it.
+
+   Called: by the other files of this folder, exec_notice.c and foreign.c, in programs and in shared objects; in any
+   thread, also in a signal handler and in a child of vfork. Lock: none: only the caller's room is written, and nothing
+   of the C library is called. */
 #ifndef ASANCOL_HUB_NAMES_H
 #define ASANCOL_HUB_NAMES_H
 
@@ -19,6 +22,7 @@ struct joined {
     bool is_cut;
 };
 
+/* Adds the first bytes of a text, at most this many. */
 void joined_add(struct joined *joined, const char *text, size_t most) OWN_NAME(joined_add);
 
 /* The name of a mark: FOLDER/NUMBER.END. False: there is no folder, or no room. */

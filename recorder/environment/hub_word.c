@@ -5,9 +5,11 @@
 
 #include <errno.h>
 #include <fcntl.h>
+#include <string.h>
 
 #include "environment/asking.h"
 #include "environment/startup.h"
+#include "common/hash.h"
 #include "base/digits.h"
 #include "environment/hub_names.h"
 #include "base/system.h"
@@ -53,16 +55,32 @@ void hub_word_note(const char *hub, const char *why)
 
 #ifndef IN_SHARED_OBJECT
 
-/* The time says which connection comes after the mark. */
+/* What the first line of a mark says of a program: its path, or the number of a link that has it. */
+static const char *short_program(const char *hub, const char *program, char room[DIGITS_ROOM])
+{
+    char name[HUB_MARK_ROOM];
+    size_t length = strlen(program);
+    if (length <= MARK_SHORT_PROGRAM && *program != MARK_PROGRAM_FRONT)
+        return program;
+    uint64_t number = (uint64_t)length << 32 | hash_of(program, length);
+    int failed = hub_mark(name, hub, number, MARK_PROGRAM) ? system_symlink(program, name) : -ENOENT;
+    if (failed != 0 && failed != -EEXIST)
+        return program;
+    char *digits = put_digits(room + DIGITS_ROOM, number, 1);
+    *--digits = MARK_PROGRAM_FRONT;
+    return digits;
+}
+
+/* The time, in microseconds since 1970, says which connection comes after the mark. */
 static int expect_as(const char *hub, int number, const char *end, const char *program, const char *why)
 {
-    char name[HUB_MARK_ROOM], digits[DIGITS_ROOM];
+    char name[HUB_MARK_ROOM], digits[DIGITS_ROOM], room[DIGITS_ROOM];
     struct timespec now;
     if (hub == NULL || !hub_mark(name, hub, (unsigned long)number, end))
         return -ENOENT;
     system_clock_gettime(CLOCK_REALTIME, &now);
-    uint64_t time = (uint64_t)now.tv_sec * 1000000000 + (uint64_t)now.tv_nsec;
-    return make_mark(name, program, why, put_digits(digits + sizeof digits, time, 1));
+    uint64_t time = (uint64_t)now.tv_sec * 1000000 + (uint64_t)now.tv_nsec / 1000;
+    return make_mark(name, short_program(hub, program, room), why, put_digits(digits + sizeof digits, time, 1));
 }
 
 int hub_word_expect(const char *hub, const char *program, const char *why)
@@ -85,7 +103,7 @@ void hub_word_killed(const char *hub, int child, int number)
                   put_digits(digits + sizeof digits, (unsigned)number, 1), NULL);
 }
 
-/* One thread begins one child at a time. */
+/* The mark has the thread's number until the child has one: a thread begins one child at a time. */
 bool hub_word_expect_child(const char *hub, const char *program, const char *why)
 {
     return expect_as(hub, system_gettid(), "begins", program, why) == 0;

@@ -1,6 +1,10 @@
-/* Word for a hub of what it does not see. Else its run would look complete. None of this needs a descriptor if the
-   process may write into the hub's folder, nor memory or a lock. The hub is its socket's path, or null: then nothing is
-   done. */
+/* Word for a hub of what it does not see: else its run would look complete. None of this needs a descriptor if the
+   process may write into the hub's folder. The hub is its socket's path, or null: then nothing is done.
+
+   Called: hub_word_note and hub_word_tell by orphan.c; hub_word_note also by foreign.c, mapping.c and process.c, and by
+   opening.c with the locks of the allocator and the stream; the others by exec_notice.c and process.c, hub_word_expect
+   also by a resolver of the program (resolvers.c). In any thread, also in a signal handler, in a child of vfork, and in
+   a child whose fork has just returned. Lock: it takes none, and nothing is allocated. */
 #ifndef ASANCOL_HUB_WORD_H
 #define ASANCOL_HUB_WORD_H
 
@@ -20,9 +24,9 @@ int hub_word_expect(const char *hub, const char *program, const char *why);
 void hub_word_expect_no_more(const char *hub);
 /* A signal has ended this child. */
 void hub_word_killed(const char *hub, int child, int number);
-/* The same of a child that is about to be begun, and has no number yet; and then it has one, or 0 if it was not
-   begun. */
+/* The same of a child that is about to be begun, and has no number yet. Answers whether the mark was made. */
 bool hub_word_expect_child(const char *hub, const char *program, const char *why);
+/* This thread's newest child of that kind has a number now; 0: it was not begun. */
 void hub_word_expect_as(const char *hub, int child);
 
 #endif

@@ -1,6 +1,8 @@
 /* The note that a link by asancol-cc leaves in a program or a shared object: what of it asancol-cc did not compile. It
-   is an ELF note, so strip leaves it there, and it is found in a file as in memory. common/README.md says it in
-   words. */
+   is an ELF note, so strip leaves it there, and it is found in a file as in memory. common/README.md says it in words.
+
+   Called: there is no code here. The wrapper writes the note into the linked file; a process only reads it, in any
+   thread, without a lock. */
 #ifndef ASANCOL_LINK_NOTE_H
 #define ASANCOL_LINK_NOTE_H
 

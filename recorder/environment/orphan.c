@@ -110,6 +110,7 @@ static bool look_in(const char *base, unsigned long slack, take_run *take, const
     return is_taken;
 }
 
+/* Among the folders in which runs are made. */
 static bool look_at_folders(unsigned long slack, take_run *take, const char *why)
 {
     static const char *const bases[] = {"/tmp", "/dev/shm", "/var/tmp"};
@@ -157,12 +158,14 @@ static AS_TABLE struct {
     const char *in_the_way;
 } given;
 
+/* A take_run: asks this run for the settings. */
 static bool take_settings(const char *hub, const char *why)
 {
     (void)why;
     static const char other_user[] = "it runs as another user than asancol-run, and need not trust its settings";
     long length = ask(hub, ASK_SETTINGS, true, given.text, sizeof given.text - 2);
-    if (length == 0)
+    /* Where nobody listens there is no run: another socket's name may have our mark, too. */
+    if (length == 0 || length == -ECONNREFUSED || length == -ENOENT)
         return false;
     /* That of one is what there is to say, whatever others with its mark answer. */
     if (length == -EACCES)

@@ -1,7 +1,10 @@
 /* A process that has no setting of ours, and runs under an asancol-run all the same: its environment was cleaned, or is
    not to be believed. It finds the run by what it has inherited (common/inherited.h).
 
-   Called: orphan_ask once at the start, orphan_say when a process or a shared object can't be recorded; no lock. */
+   Called: orphan_ask by own_run.c and process.c, then orphan_value by settings.c and own_run.c, in the thread that
+   starts the recorder. orphan_say by process.c and mapping.c in that thread, by foreign.c in the thread that loads an
+   object, and if the recorder is preloaded in the first thread that executes checks, perhaps in a signal handler. Lock:
+   it takes none: the answer of the run is written by orphan_ask alone. Nothing is allocated. */
 #ifndef ASANCOL_ORPHAN_H
 #define ASANCOL_ORPHAN_H
 

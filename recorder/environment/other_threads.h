@@ -1,6 +1,8 @@
-/* Whether a process has other threads.
+/* Whether a process has other threads, as the system says.
 
-   Called: at any time, also in a handler: calls of the system alone. */
+   Called: by world.c in the search for leaks (with the loader's and the allocator's lock), by ending.c, and by
+   library.c in a forked child; in any thread, also in a signal handler. Lock: it takes none: it makes calls of the
+   system alone, and keeps nothing. */
 #ifndef ASANCOL_OTHER_THREADS_H
 #define ASANCOL_OTHER_THREADS_H
 

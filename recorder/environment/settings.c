@@ -28,7 +28,7 @@ static const char *const names[] = {
     "ASANCOL_STOP",     "ASANCOL_REPORT",   "ASANCOL_SYMBOLIZER",              "ASANCOL_SEGMENTS",
     "ASANCOL_LEAKS",    "ASANCOL_MISMATCHES", "ASANCOL_USE_AFTER_RETURN",     "ASANCOL_LIBRARIES",
     "ASANCOL_FULL",     "ASANCOL_OUTER",   "ASANCOL_RUN",      "ASANCOL_ODR",
-    "ASANCOL_INIT_ORDER", "ASANCOL_POINTER_PAIRS",              "ASANCOL_MAY_RETURN_NULL",
+    "ASANCOL_ROOT",     "ASANCOL_INIT_ORDER", "ASANCOL_POINTER_PAIRS",              "ASANCOL_MAY_RETURN_NULL",
 #define FRONT(name, end, variable, usual, has_new, links_libm) variable,
 #include "wrapper/fronts.def"
 };
@@ -62,7 +62,7 @@ static const char *nearest(const char *name, size_t length)
 
 static void say_unknown(const char *name, size_t length)
 {
-    char shown[MAX_NAME_LENGTH + 1], why[64 + MAX_NAME_LENGTH] = "there is no such setting";
+    char shown[MAX_NAME_LENGTH + 1], why[64 + MAX_NAME_LENGTH] = "unknown setting";
     const char *meant = length <= MAX_NAME_LENGTH ? nearest(name, length) : NULL;
     size_t count = length < MAX_NAME_LENGTH ? length : MAX_NAME_LENGTH;
     memcpy(shown, name, count);
@@ -107,21 +107,21 @@ static void add_number(char *text, size_t room, uint64_t number)
     add(text, room, put_digits(digits + sizeof digits, number, 1));
 }
 
-/* "VALUE is not a number from LEAST to MOST, and OTHERWISE holds" */
+/* "'VALUE' is not a number (LEAST to MOST), so OTHERWISE applies" */
 static void say_no_number(const char *name, const char *value, uint64_t least, uint64_t most, uint64_t otherwise)
 {
-    char why[256] = "";
+    char why[256] = "'";
     strncat(why, value, 64);
-    add(why, sizeof why, " is not a number from ");
+    add(why, sizeof why, "' is not a number (");
     add_number(why, sizeof why, least);
     add(why, sizeof why, " to ");
     add_number(why, sizeof why, most);
-    add(why, sizeof why, ", and ");
+    add(why, sizeof why, "), so ");
     if (otherwise == ALL_SEGMENTS) {
         add(why, sizeof why, "all are kept");
     } else {
         add_number(why, sizeof why, otherwise);
-        add(why, sizeof why, " holds");
+        add(why, sizeof why, " applies");
     }
     recorder_say("ignored: ", name, why);
 }
@@ -258,6 +258,13 @@ static void read_classes(struct settings *settings)
     settings->init_order = (int)number_of("ASANCOL_INIT_ORDER", 0, 2, order);
     settings->pointer_pairs = (int)number_of("ASANCOL_POINTER_PAIRS", 0, 2, pairs);
     settings->may_return_null = number_of("ASANCOL_MAY_RETURN_NULL", 0, 1, may_return_null) == 1;
+    settings->whole_strings = asan_options_say(ASAN_strict_string_checks, false);
+    settings->containers = asan_options_say(ASAN_detect_container_overflow, true);
+    settings->user_poison = asan_options_say(ASAN_allow_user_poisoning, true);
+    settings->counts = asan_options_say(ASAN_poison_array_cookie, true);
+    settings->formats = asan_options_say(ASAN_check_printf, true);
+    settings->whole_memcmp = asan_options_say(ASAN_strict_memcmp, true);
+    settings->keeps_empty = !asan_options_say(ASAN_allocator_frees_and_returns_null_on_realloc_zero, true);
 }
 
 void settings_read(struct settings *settings)
@@ -267,6 +274,7 @@ void settings_read(struct settings *settings)
     if (!startup.is_set_user)
         look_for_unknown();
     read_outputs(settings);
+    settings->root = number_of("ASANCOL_ROOT", 1, UINT32_MAX, 0);
     settings->stop = number_of("ASANCOL_STOP", 1, EVENT_LIMIT, 0);
     settings->limit = number_of("ASANCOL_LIMIT", 1, EVENT_LIMIT, EVENT_LIMIT);
     settings->segments = number_of("ASANCOL_SEGMENTS", 0, MAX_SEGMENTS_KEPT, ALL_SEGMENTS);

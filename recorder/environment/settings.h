@@ -1,6 +1,8 @@
 /* What the environment says.
 
-   Called: settings_read once at the start; then they are only read. */
+   Called: settings_read by process.c, in the thread that starts the recorder, once; settings_hub there, and by
+   mapping.c if there is no room for the shadow. Lock: none: process.c keeps the settings, and changes `trace` and
+   `is_full` later, with the allocator's lock. Others read them, in any thread. */
 #ifndef ASANCOL_SETTINGS_H
 #define ASANCOL_SETTINGS_H
 
@@ -34,9 +36,15 @@ struct settings {
        2: with strict_init_order. */
     int odr, pointer_pairs, init_order;
     bool may_return_null; /* where memory is refused, that is no mistake */
+    /* As strict_string_checks, detect_container_overflow, allow_user_poisoning, poison_array_cookie, check_printf and
+       strict_memcmp. */
+    bool whole_strings, containers, user_poison, counts, formats, whole_memcmp;
+    bool keeps_empty; /* realloc to no bytes gives a block, as without
+                         allocator_frees_and_returns_null_on_realloc_zero */
     enum halt halt;
     bool checks_libraries; /* what plain libraries call, too */
     const char *passed_over; /* the hub that the environment names beside a trace, or null */
+    uint64_t root;           /* the process that has started the run for itself (process/root.h); 0: none */
 };
 
 /* The hub that the environment names, or null. */

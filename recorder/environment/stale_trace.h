@@ -1,6 +1,7 @@
 /* Whether a trace that is there is one of an earlier run.
 
-   Called: when a trace is opened, with the lock of the stream. */
+   Called: by opening.c, in the thread that begins the stream: at the start, in a forked child, or at the first fault,
+   there perhaps in a signal handler. Lock: the caller has the stream's; this takes none, and keeps nothing. */
 #ifndef ASANCOL_STALE_TRACE_H
 #define ASANCOL_STALE_TRACE_H
 

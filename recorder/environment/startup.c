@@ -1,3 +1,5 @@
+/* `startup` points to what the system has put on the first stack: argv, a null, the environment, a null, and numbers in
+   pairs (auxv). Nothing is copied. */
 #include "environment/startup.h"
 
 #include <elf.h>
@@ -7,7 +9,8 @@ struct startup startup;
 
 #ifndef IN_SHARED_OBJECT
 
-/* A number of the system's. It begins none with a null. */
+/* The number of a type behind the environment. The system has no type of 0, so more nulls than one belong to the
+   environment. */
 static uint64_t number_behind(char *const *variables, uint64_t type, uint64_t otherwise)
 {
     while (*variables != NULL)
@@ -39,9 +42,9 @@ void startup_note(char **argv, char **variables)
     startup.words = argv[0];
     startup.are_all_words = number_behind(variables, AT_BASE, 0) != 0;
     startup.end = last > (uintptr_t)argv ? last / PAGE * PAGE + PAGE : 0;
-    startup.variables = variables;
+    startup.variables = variables; /* last: who finds these finds the rest */
 #else
-    (void)variables; /* where the object is opened later, they may be others */
+    (void)variables; /* if the object is opened later, the program may have changed them */
 #endif
 }
 

@@ -1,5 +1,5 @@
-/* `library` is filled once, by the names of the table `wanted`, from the loader's list of objects. Until then its
-   functions do nothing. */
+/* `library` is filled once, by the names of the table `wanted_names`, from the loader's list of objects. Until then its
+   functions do nothing. A static program has its functions from the link. */
 #define _GNU_SOURCE
 #include "libc/library.h"
 
@@ -15,6 +15,8 @@ extern int __clock_gettime(int, struct timespec *);
 extern int find_object(void *, struct dl_find_object *) NAMED("_dl_find_object") __attribute__((weak));
 extern int _IO_fputs(const char *, FILE *);
 extern int __cxa_atexit(void (*)(void *), void *, void *);
+extern int on_exit_of_library(void (*)(int, void *), void *) NAMED("__on_exit");
+extern void exit(int);
 extern int _IO_flush_all(void);
 extern char **__environ;
 extern void *__libc_stack_end;
@@ -28,6 +30,8 @@ struct library library = {
     ._dl_find_object = find_object,
     .fputs = _IO_fputs,
     .__cxa_atexit = __cxa_atexit,
+    .on_exit = on_exit_of_library,
+    .exit = exit,
     ._IO_flush_all = _IO_flush_all,
     .__libc_single_threaded = &single_threaded,
     .environment = &__environ,
@@ -141,6 +145,8 @@ static const struct {
     WANTED(dladdr),
     WANTED(dlsym),
     WANTED(__cxa_atexit),
+    WANTED(on_exit),
+    WANTED(exit),
     WANTED(_IO_flush_all),
     WANTED(__chk_fail),
     WANTED(getc),
@@ -158,6 +164,7 @@ static uintptr_t find_variable(const struct object *program, const struct object
     return moved != 0 ? moved : object_find(from, name);
 }
 
+/* Fills `library` by the names of the C library, and its variables by where the program has them. */
 static void find_all(const struct object *program, const struct object *from)
 {
     for (size_t i = 0; i < sizeof wanted_names / sizeof *wanted_names; i++) {
@@ -220,6 +227,7 @@ static bool is_own_module(const struct dl_phdr_info *module)
 #endif
 }
 
+/* Visits a module: whether it has the name, if it comes after the one with the recorder. */
 static int look_for_name(struct dl_phdr_info *module, size_t size, void *of)
 {
     struct search *search = of;
@@ -281,6 +289,7 @@ bool library_has(const void *function)
 /* The loader's own, once another one has its place. */
 static int (*iterate)(int (*visit)(struct dl_phdr_info *, size_t, void *), void *with);
 
+/* dl_iterate_phdr without its lock, which nobody gives back in this child; with it once there are other threads. */
 static int iterate_alone(int (*visit)(struct dl_phdr_info *, size_t, void *), void *with)
 {
     int answer = 0;
@@ -356,14 +365,34 @@ void library_find(struct hook_page *hook_page)
     library.dl_iterate_phdr(look_at, hook_page);
 }
 
-/* The loader's lock is held: no other thread writes to the page. */
+static bool is_being_written;
+
+/* Makes the page writable, unless another thread, or code that this handler has interrupted, is writing to it. Then the
+   page is left as it is: of two such writers one is library_leave_unchecked, which comes once nothing is recorded. */
+static bool begin_writing(struct hook_page *hook_page)
+{
+    if (__atomic_exchange_n(&is_being_written, true, __ATOMIC_ACQUIRE))
+        return false;
+    if (system_mprotect(hook_page, sizeof *hook_page, PROT_READ | PROT_WRITE) == 0)
+        return true;
+    __atomic_store_n(&is_being_written, false, __ATOMIC_RELEASE);
+    return false;
+}
+
+static void end_writing(struct hook_page *hook_page)
+{
+    system_mprotect(hook_page, sizeof *hook_page, PROT_READ);
+    __atomic_store_n(&is_being_written, false, __ATOMIC_RELEASE);
+}
+
+/* The loader's lock is held. */
 static int look_for_mathematics(struct dl_phdr_info *module, size_t size, void *of)
 {
     struct hook_page *hook_page = of;
     struct code_range range = object_range(module);
     (void)size;
     if (!object_is_named(module->dlpi_name, "libm.so") || range.start == hook_page->mathematics.start
-        || system_mprotect(hook_page, sizeof *hook_page, PROT_READ | PROT_WRITE) != 0)
+        || !begin_writing(hook_page))
         return 0;
     /* A call that comes between these is not checked. */
     volatile struct code_range *noted = &hook_page->mathematics;
@@ -372,7 +401,7 @@ static int look_for_mathematics(struct dl_phdr_info *module, size_t size, void *
     noted->start = range.start;
     __atomic_thread_fence(__ATOMIC_RELEASE);
     noted->size = range.size;
-    system_mprotect(hook_page, sizeof *hook_page, PROT_READ);
+    end_writing(hook_page);
     return 0;
 }
 
@@ -386,10 +415,10 @@ void library_look_again(void)
 void library_leave_unchecked(void)
 {
     struct hook_page *hook_page = (struct hook_page *)HOOK_PAGE_START;
-    if (system_mprotect(hook_page, sizeof *hook_page, PROT_READ | PROT_WRITE) != 0)
+    if (!begin_writing(hook_page))
         return;
     hook_page->library.size = hook_page->system.size = hook_page->mathematics.size = 0;
-    system_mprotect(hook_page, sizeof *hook_page, PROT_READ);
+    end_writing(hook_page);
 }
 
 #endif

@@ -1,7 +1,11 @@
 /* The C library: where its code lies, whose functions are checked when they are called, and those of its functions that
    the recorder calls for itself. A program may have any name for itself, so these are found by address.
 
-   Called: library_begin and library_find at the start; what they found is read at any time, also in a handler. */
+   Called: library_begin by start.c, mapping.c and preload_choice.c at the first call, before there is another thread;
+   what it found is read and called in any thread, also in a signal handler. Lock: none of its own. library_find, _next,
+   _first, _has, _look_again and _generation take the loader's for a moment, so their callers have none of the
+   recorder's. library_go_without_lock and library_leave_unchecked are called by process.c, with the allocator's; the
+   latter in any thread and in a handler, once nothing is recorded any more. */
 #ifndef ASANCOL_LIBRARY_H
 #define ASANCOL_LIBRARY_H
 
@@ -55,6 +59,8 @@ struct library {
     char *(*dlerror)(void);
     void *(*dlvsym)(void *where, const char *name, const char *version);
     const int *optind; /* or null */
+    int (*on_exit)(void (*handler)(int status, void *with), void *with);
+    void (*exit)(int status);
 };
 
 extern struct library library OWN_NAME(library);

@@ -12,6 +12,7 @@ static const void *place_in(uintptr_t base, const Elf64_Dyn *entry)
     return (const void *)(at < base ? base + at : at);
 }
 
+/* Takes an entry of the dynamic section, if it is one that is needed here. */
 static void read_entry(struct object *object, const Elf64_Dyn *it)
 {
     const void *place = place_in(object->base, it);

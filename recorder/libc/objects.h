@@ -1,7 +1,8 @@
 /* What a loaded object says of its names, in the tables that the loader reads. The tables are not checked: the loader
    has believed them.
 
-   Called: at the start, and after a library was opened; it only reads. */
+   Called: by library.c, preload_choice.c, plain.c and odr.c, in the thread that starts the recorder or loads a library.
+   Lock: it takes none, and only reads: the caller has the loader's, or there is one thread. */
 #ifndef ASANCOL_OBJECTS_H
 #define ASANCOL_OBJECTS_H
 

@@ -2,6 +2,8 @@
    such as to copy a structure. A program may have such names for its own functions. So the build gives them the front
    `asancol_own_` in each of our objects (Makefile), and in this one where they are defined.
 
+   Called: by all of the recorder, in any thread, also in a signal handler, with any lock or none: there is no state.
+
    Wrapped functions that a check calls for the program are apart from these: they are `__real_` and the name. */
 #define _GNU_SOURCE
 #include <stddef.h>
@@ -122,7 +124,8 @@ int memcmp(const void *one, const void *other, size_t size)
     return 0;
 }
 
-/* Which of the 16 bytes from here on are this one: a bit for each. They lie in one page. */
+/* Which of the 16 bytes from here on are this one: a bit for each. They lie in one page, so bytes before and behind the
+   text may be read. */
 static unsigned matches(uintptr_t at, bytes16 bytes)
 {
     return bytes16_same_there(at, bytes);

@@ -1,5 +1,6 @@
-/* The file that the system would run is found as execvp finds it, its note is read (link_mark.h), and the word is left
-   with the hub (hub_word.h). It may run in a child of vfork, so nothing is kept. */
+/* The file that the system would run is found as execvp finds it (struct target says what it is given), its note is
+   read (link_mark.h), and the word is left with the hub (hub_word.h). It may run in a child of vfork, so nothing is
+   kept. */
 #define _GNU_SOURCE
 #include "process/exec_notice.h"
 
@@ -108,6 +109,7 @@ static const char *expected_in(const struct target *target, const char *path, co
     return built != BUILT_BY_OTHERS ? path : NULL;
 }
 
+/* Leaves word with the hub. False: the file needs none, or no word could be left. */
 static bool note_exec(const struct target *target, const char *found)
 {
     char shown[SHOWN_ROOM];

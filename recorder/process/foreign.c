@@ -1,3 +1,4 @@
+/* One sentence is put together, and left with the hub that the environment names, or that orphan.c finds. */
 #define _GNU_SOURCE
 #include "process/foreign.h"
 

@@ -1,3 +1,4 @@
+/* Stateless: the cheap answers come first, and a call of the system last. */
 #include "process/given.h"
 
 #include "base/memory.h"

@@ -1,6 +1,7 @@
 /* Memory that the program gives to the system, of which nothing is known.
 
-   Called: by the checks of calls, in any thread, also in a handler; no lock. */
+   Called: by the checks of calls (calls/there.c) and exec_notice.c, in any thread, also in a signal handler and in a
+   child of vfork. Lock: none: it looks at the shadow, and asks the system. */
 #ifndef ASANCOL_GIVEN_H
 #define ASANCOL_GIVEN_H
 
@@ -17,7 +18,8 @@ bool given_is_there(uintptr_t start, size_t size);
 /* Whether a text can, up to its end. */
 bool given_text_is_there(const char *text);
 
-/* How many of the first bytes of a text can be read, at most up to its end and with that. */
+/* How many of the first bytes of a text can be read, at most up to its end and with that; `is_there` answers for each
+   page. */
 static inline size_t given_text_length(const char *text, bool (*is_there)(uintptr_t start, size_t size))
 {
     const char *at = text, *end = NULL;

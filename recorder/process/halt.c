@@ -1,4 +1,5 @@
-/* ASANCOL_HALT: the process ends at the first access or free that the shadow flags, as a fuzzer wants it.
+/* ASANCOL_HALT: the process ends at the first access or free that the shadow flags, as a fuzzer wants it. `halting`
+   says which thread does it.
 
    With 1 the recording ends there, with a close if it has everything. With 2 it begins there: with what stands, and
    this one event. So only a process that fails leaves a trace, and asancol judges it without a second run.
@@ -29,6 +30,7 @@ bool halt_is_first_crash(void)
     return !atomic_exchange(&is_crashing, true);
 }
 
+/* Records the event, which the end of the recording is to follow. */
 static void record(enum code code, unsigned width, uint64_t address, uintptr_t caller, struct access *whole)
 {
     if (code == CODE_FREE)
@@ -37,7 +39,8 @@ static void record(enum code code, unsigned width, uint64_t address, uintptr_t c
         record_piece_of(code, width, address, caller, whole);
 }
 
-/* The process prints the report itself: nobody else may do so. */
+/* Prints the report on standard error. The process does it by itself, since perhaps nobody else will: under a fuzzer
+   there is no asancol-report. */
 static void say_what(enum code code, unsigned width, uint64_t address, uintptr_t caller, const struct access *whole)
 {
     struct access alone = access_of(code, address, width, caller, NULL);

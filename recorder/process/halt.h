@@ -1,6 +1,12 @@
-/* The end of the process at the first access or free that the shadow flags.
+/* The end of the process at the first access or free that the shadow flags, by ASANCOL_HALT; or the beginning of the
+   recording there, if a preloaded recorder waits for it.
 
-   Called: halt_at by the stream (`above`), in the thread with the fault, also in a handler. */
+   Called: halt_at by the stream (record.h) and the allocator (allocating.c), through the table `above` (state.h), in
+   which the stream has the functions of higher layers; in the thread with the fault, perhaps in a signal handler that
+   has interrupted the allocator. halt_on_death and halt_is_first_crash by the program (interface.c, by hooks.h), in any
+   thread. Lock: the caller has none of the recorder's, but what a handler has interrupted may have the allocator's.
+   Nothing here is guarded by one: all state is atomic. Nothing is allocated; but the program's callbacks run at the
+   end, and these may do anything. */
 #ifndef ASANCOL_HALT_H
 #define ASANCOL_HALT_H
 
@@ -10,12 +16,14 @@
 #include "common/format.h"
 #include "stream/access.h"
 
-/* Ends the recording and the process, unless another thread is doing so: then it returns. `whole` is null if the access
-   is no piece. */
+/* Ends the recording and the process. It returns in three cases: the settings do not want the end, and the event is
+   recorded; this thread is ending the process already (a callback has a fault); or another thread is, and has not come
+   to the end within 5 seconds. `whole` is the access of which this is a piece, or null if it is all of it; never null
+   for a free. */
 void halt_at(enum code code, unsigned width, uint64_t address, uintptr_t caller, struct access *whole);
-/* The function that is called before that. */
+/* The function that is called before the process ends, in place of an earlier one. */
 void halt_on_death(void (*callback)(void));
-/* Whether nobody has asked this before: who asks first reports the crash. */
+/* Whether nobody has asked this before, and the process is not halting: who asks first reports the crash. */
 bool halt_is_first_crash(void);
 
 #endif

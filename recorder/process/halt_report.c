@@ -31,6 +31,7 @@ static struct {
     size_t length;
 } text;
 
+/* Writes what waits to standard error, without the signals that a closed pipe, or a limit, would send. */
 static void flush(void)
 {
     size_t done = 0;

@@ -1,6 +1,7 @@
 /* What a process says that ends by ASANCOL_HALT: a report in AddressSanitizer's words.
 
-   Called: by halt.c, in the one thread that ends the process, also in a handler; nothing is allocated. */
+   Called: by halt.c, in the one thread that ends the process, perhaps in a signal handler that has interrupted the
+   allocator. Lock: none: what it reads of the allocator and of the loader needs none. Nothing is allocated. */
 #ifndef ASANCOL_HALT_REPORT_H
 #define ASANCOL_HALT_REPORT_H
 

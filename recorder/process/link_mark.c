@@ -29,6 +29,7 @@ static size_t padded(uint32_t size)
     return ((size_t)size + 3) / 4 * 4;
 }
 
+/* Whether the note of asancol-cc is among these notes. */
 static bool has_note(const unsigned char *notes, size_t size)
 {
     for (size_t at = 0; at + sizeof(Elf64_Nhdr) <= size;) {
@@ -43,6 +44,7 @@ static bool has_note(const unsigned char *notes, size_t size)
     return false;
 }
 
+/* Whether the open file of a program has the note: its head is read already, its segments of notes are read here. */
 static bool is_marked(int file, const unsigned char *head, size_t size)
 {
     _Alignas(8) unsigned char notes[NOTE_BYTES];

@@ -1,22 +1,33 @@
-/* At the start, a program without an output becomes asancol-run by execve, with its own command line as the command. */
+/* At the start, a program without an output forks twice: the grandchild becomes asancol-run, in a session of its own,
+   and is no child of the program's. It sends the environment of a command through a pipe, with which the program
+   executes itself again. So the program stays the process that its parent has started. A program to which orphans come,
+   such as the first process of a container, would have the run as its child: it becomes the run, and is its child. */
 #define _GNU_SOURCE
 #include "process/own_run.h"
 
 #include <asm/termbits.h>
 #include <errno.h>
+#include <fcntl.h>
 #include <limits.h>
+#include <sched.h>
+#include <signal.h>
 #include <string.h>
 #include <sys/ioctl.h>
 #include <sys/mman.h>
+#include <sys/prctl.h>
+#include <sys/wait.h>
 #include <unistd.h>
 
+#include "base/digits.h"
 #include "base/errors.h"
 #include "base/platform.h"
 #include "base/say.h"
 #include "base/system.h"
-#include "process/preload_choice.h"
-#include "environment/startup.h"
+#include "common/text.h"
+#include "environment/asking.h"
 #include "environment/orphan.h"
+#include "environment/startup.h"
+#include "process/preload_choice.h"
 
 #define PROGRAM "asancol-run"
 
@@ -37,11 +48,15 @@ static const char *value_of(const char *name)
     return NULL;
 }
 
-/* Whether the process records already, or a run is found whose setting it has lost. */
+/* Whether the process records already, or a run is found whose setting it has lost. A run that a program has started
+   for itself may be over, while others of its processes go on that were never recorded. */
 static bool has_output(void)
 {
-    if (value_of("ASANCOL_HUB") != NULL || value_of("ASANCOL_TRACE") != NULL || value_of("ASANCOL_SOCKET") != NULL)
+    const char *hub = value_of("ASANCOL_HUB");
+    if (value_of("ASANCOL_TRACE") != NULL || value_of("ASANCOL_SOCKET") != NULL)
         return true;
+    if (hub != NULL)
+        return value_of("ASANCOL_ROOT") == NULL || is_asked_at(hub);
     orphan_ask();
     return orphan_value("ASANCOL_HUB") != NULL;
 }
@@ -59,23 +74,48 @@ static bool find_self(char *path, size_t room)
     return system_access(path, X_OK) == 0;
 }
 
-/* asancol-run -q --self FILE -- and the program's words. Null: there is no memory. */
-static const char **make_argv(const char *self)
+/* Memory that is never given back: the process becomes another one, or goes on without it. Null: there is none. */
+static void *take_memory(size_t bytes)
 {
-    static const char *const front[] = {PROGRAM, "-q", "--self", NULL, "--"};
-    enum { FRONT = sizeof front / sizeof *front };
-    size_t count = 0;
+    long made = system_mmap(NULL, bytes, PROT_READ | PROT_WRITE, MAP_PRIVATE | MAP_ANONYMOUS, -1, 0);
+    return made > 0 ? (void *)made : NULL;
+}
+
+/* Whether orphans become its children. */
+static bool is_reaper(void)
+{
+    int is_one = 0;
+    if (system_call3(SYS_prctl, PR_GET_CHILD_SUBREAPER, (long)&is_one, 0) != 0)
+        is_one = 0;
+    return is_one != 0 || system_getpid() == 1;
+}
+
+/* asancol-run -q --format FORM --self FILE, with --serve PROCESS if it is no child of the run, and the program's words.
+   Who has come from AddressSanitizer, by its flag or its options, may have parsers of its text. Null: there is no
+   memory. */
+static const char **make_argv(const char *self, bool is_served)
+{
+    static char digits[DIGITS_ROOM];
+    enum { FRONT = 9 };
+    size_t count = 0, at = 0;
     while (startup.argv[count] != NULL)
         count++;
-    size_t bytes = (count + FRONT + 1) * sizeof *front;
-    long made = system_mmap(NULL, bytes, PROT_READ | PROT_WRITE, MAP_PRIVATE | MAP_ANONYMOUS, -1, 0);
-    if (made <= 0)
+    const char **argv = take_memory((count + FRONT + 1) * sizeof *argv);
+    if (argv == NULL)
         return NULL;
-    const char **argv = (const char **)made;
-    memcpy(argv, front, sizeof front);
-    argv[3] = self;
+    argv[at++] = PROGRAM;
+    argv[at++] = "-q";
+    argv[at++] = "--format";
+    argv[at++] = asancol_by_flag != NULL || value_of("ASAN_OPTIONS") != NULL ? "asan" : "asancol";
+    argv[at++] = "--self";
+    argv[at++] = self;
+    if (is_served) {
+        argv[at++] = "--serve";
+        argv[at++] = put_digits(digits + sizeof digits, (uint64_t)system_getpid(), 1);
+    }
+    argv[at++] = "--";
     for (size_t i = 0; i <= count; i++)
-        argv[FRONT + i] = startup.argv[i];
+        argv[at + i] = startup.argv[i];
     return argv;
 }
 
@@ -104,6 +144,105 @@ static int become_found(const char *const *argv)
     return error;
 }
 
+/* Answers why it did not. What the process has of a run that is over is none of the new one's. */
+static int become_run(const char *wanted, const char *const *argv)
+{
+    char **kept = startup.variables;
+    for (char **entry = kept; (*kept = *entry) != NULL; entry++)
+        kept += !begins_with(*entry, "ASANCOL_HUB=") && !begins_with(*entry, "ASANCOL_ROOT=");
+    return strchr(wanted, '/') != NULL ? become(wanted, argv) : become_found(argv);
+}
+
+/* In the grandchild. */
+static _Noreturn void become_server(const char *wanted, const char *const *argv, int to)
+{
+    system_dup2(to, STDIN_FILENO);
+    if (to == STDIN_FILENO)
+        system_fcntl(to, F_SETFD, 0);
+    unsigned char said = (unsigned char)become_run(wanted, argv);
+    system_write(STDIN_FILENO, &said, sizeof said);
+    system_exit(1);
+}
+
+/* No signal tells the program of this child, nobody but us waits for it, and no debugger follows it. */
+static int fork_quietly(void)
+{
+    return (int)system_call6(SYS_clone, CLONE_UNTRACED, 0, 0, 0, 0, 0);
+}
+
+static void start_run(const char *wanted, const char *const *argv, int to)
+{
+    int child = fork_quietly(), status;
+    if (child == 0) {
+        system_setsid();
+        if (fork_quietly() == 0)
+            become_server(wanted, argv, to);
+        system_exit(0);
+    }
+    while (child > 0 && system_call4(SYS_wait4, child, (long)&status, __WALL, 0) == -EINTR)
+        continue;
+}
+
+/* Reads up to the end. Null: there is no memory. */
+static char *read_answer(int from, size_t *length)
+{
+    size_t room = 1 << 16;
+    char *text = take_memory(room);
+    ssize_t count = 1;
+    *length = 0;
+    if (text == NULL)
+        return NULL;
+    while (count > 0 || count == -EINTR) {
+        if (room - *length < 2) {
+            char *more = take_memory(2 * room);
+            if (more == NULL)
+                return NULL;
+            text = memcpy(more, text, *length);
+            room *= 2;
+        }
+        count = system_read(from, text + *length, room - *length - 1);
+        *length += count > 0 ? (size_t)count : 0;
+    }
+    return text;
+}
+
+static const char *why_not(int error)
+{
+    return error == ENOENT ? PROGRAM " was not found, so it runs unchecked: ASANCOL_RUN may be its path"
+                           : error_text(error);
+}
+
+/* Starts the run, and executes the program again with what that has sent: the timer slack, and the environment. It
+   answers why it did not. */
+static const char *begin_again(const char *wanted, const char *self, const char *const *argv)
+{
+    unsigned long slack;
+    int ends[2];
+    size_t length = 0, count = 0;
+    if (system_call3(SYS_pipe2, (long)ends, O_CLOEXEC, 0) != 0)
+        return "it has no descriptor for a pipe, so it runs unchecked";
+    start_run(wanted, argv, ends[1]);
+    system_close(ends[1]);
+    const char *text = read_answer(ends[0], &length);
+    system_close(ends[0]);
+    if (text != NULL && length == 1)
+        return why_not((unsigned char)*text);
+    if (text == NULL || length < sizeof slack)
+        return PROGRAM " did not begin, so it runs unchecked";
+    memcpy(&slack, text, sizeof slack);
+    for (size_t i = sizeof slack; i < length; i++)
+        count += text[i] == 0;
+    const char **variables = take_memory((count + 1) * sizeof *variables);
+    if (variables == NULL)
+        return "there is no memory, so it runs unchecked";
+    text += sizeof slack;
+    for (size_t i = 0; i < count; i++, text += strlen(text) + 1)
+        variables[i] = text;
+    if (slack != 0)
+        system_call3(SYS_prctl, PR_SET_TIMERSLACK, (long)slack, 0);
+    return error_text(-(int)system_call3(SYS_execve, (long)self, (long)startup.argv, (long)variables));
+}
+
 void own_run_begin(void)
 {
     static char self[PATH_MAX];
@@ -116,13 +255,12 @@ void own_run_begin(void)
     const char **argv = NULL;
     if (!find_self(self, sizeof self))
         failure = "its own file is not known, or cannot be executed, so it runs unchecked";
-    else if ((argv = make_argv(self)) == NULL)
+    else if ((argv = make_argv(self, !is_reaper())) == NULL)
         failure = "there is no memory, so it runs unchecked";
-    if (argv == NULL)
-        return;
-    int error = strchr(wanted, '/') != NULL ? become(wanted, argv) : become_found(argv);
-    failure = error == ENOENT ? PROGRAM " was not found, so it runs unchecked: ASANCOL_RUN may be its path"
-                              : error_text(error);
+    else if (is_reaper())
+        failure = why_not(become_run(wanted, argv));
+    else
+        failure = begin_again(wanted, self, argv);
 }
 
 static bool is_at_terminal(void)

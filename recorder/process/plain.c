@@ -192,6 +192,7 @@ struct module {
     bool is_plain;                 /* asancol-cc has not linked it */
 };
 
+/* Reads the tables of a module that is loaded. */
 static void read_module(struct module *module, const struct dl_phdr_info *info)
 {
     *module = (struct module){.info = info, .all = object_range(info), .is_filled = true};
@@ -200,8 +201,9 @@ static void read_module(struct module *module, const struct dl_phdr_info *info)
         uintptr_t start = info->dlpi_addr + it->p_vaddr, end = start + it->p_memsz;
         if (it->p_type == PT_DYNAMIC)
             module->object = object_read(info->dlpi_addr, (const Elf64_Dyn *)start);
-        else if (it->p_type == PT_GNU_RELRO && end / PAGE > start / PAGE)
-            module->guarded = (struct code_range){start / PAGE * PAGE, (end / PAGE - start / PAGE) * PAGE};
+        else if (it->p_type == PT_GNU_RELRO && end / SYSTEM_PAGE > start / SYSTEM_PAGE)
+            module->guarded = (struct code_range){start / SYSTEM_PAGE * SYSTEM_PAGE,
+                                                  (end / SYSTEM_PAGE - start / SYSTEM_PAGE) * SYSTEM_PAGE};
     }
 }
 
@@ -245,6 +247,7 @@ static bool leads_to(const struct module *module, const Elf64_Rela *it, uintptr_
     return (now == function || waits) && object_asks_for_new(&module->object, ELF64_R_SYM(it->r_info), &library_object);
 }
 
+/* Leads one slot to where calls by its name shall go, if the loader has filled it and it can be written. */
 static void lead(struct module *module, const Elf64_Rela *it)
 {
     uint64_t type = ELF64_R_TYPE(it->r_info);
@@ -354,6 +357,7 @@ struct look {
     bool has_found; /* a module that was not known */
 };
 
+/* Visits a module, with the loader's lock: leads the slots of a plain one that is not known yet. */
 static int look_at(struct dl_phdr_info *info, size_t size, void *of)
 {
     struct look *look = of;

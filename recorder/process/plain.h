@@ -1,13 +1,17 @@
 /* What plain libraries call: those that asancol-cc did not link.
 
-   Called: at the start, and after a library was opened; plain_instead_of by dlsym, in any thread. */
+   Called: plain_begin by first_call.c, or if this is preloaded by preload_wait.c; plain_look_again after a library was
+   opened, in the thread that did so; plain_instead_of by dlsym, in any thread; plain_is_of_library by unchecked.c, with
+   the lock of the stream. Lock: the first three take the loader's, so their callers have none of the recorder's.
+   plain_is_of_library takes none. The first two are not called in a signal handler, except at the first fault of a
+   preloaded recorder. */
 #ifndef ASANCOL_PLAIN_H
 #define ASANCOL_PLAIN_H
 
 #include <stdbool.h>
 
 /* Has their calls of the C library checked, from here on: of all that are loaded. Once, before there are threads, or if
-   this is preloaded at any time but in a signal handler. Does nothing if no call is checked, or ASANCOL_LIBRARIES says
+   this is preloaded when the recording begins. Does nothing if no call is checked, or ASANCOL_LIBRARIES says
    so. */
 void plain_begin(void);
 /* Those that were loaded since, too. Not in a signal handler. */

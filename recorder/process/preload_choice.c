@@ -1,3 +1,4 @@
+/* `exported` has an entry for each name that the preloaded recorder shows (exports.c): calls go by its `to`. */
 #define _GNU_SOURCE
 #include "process/preload_choice.h"
 

@@ -1,7 +1,10 @@
 /* Whether the preloaded recorder records this process, or steps aside: if the program has a recorder, as all that
    asancol-cc has linked, or if there is no room for the shadow.
 
-   Called: preload_choice_is_own at the first call; way_of by the first call of each name, in any thread. */
+   Called: preload_choice_is_own by start.c and first_call.c, and for the first time perhaps by way_of, while there is
+   one thread; way_of by the first call of each name (exports.c), in any thread, also in a signal handler; the others by
+   plain.c. Lock: way_of, if the recorder steps aside, and preload_choice_find_behind take the loader's for a moment;
+   the rest takes none. Nothing is allocated. */
 #ifndef ASANCOL_PRELOAD_CHOICE_H
 #define ASANCOL_PRELOAD_CHOICE_H
 

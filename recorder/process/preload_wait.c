@@ -1,3 +1,4 @@
+/* No state of its own: whether the recorder waits is known by process.c, and who comes first begins the recording. */
 #include "process/preload_wait.h"
 
 #include <stdatomic.h>

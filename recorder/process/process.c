@@ -100,6 +100,7 @@ const char *recorder_hub(void)
     return process.settings.hub != NULL ? process.settings.hub : process.settings.passed_over;
 }
 
+/* Opens the stream, to a trace whose name is made of the pattern. False: there is none, and a line said why. */
 static bool open_stream(void)
 {
     if (process.pattern != NULL) {
@@ -125,6 +126,20 @@ static bool has_events(void)
     return atomic_load(&STREAM->cursor) >= (CURSOR_ON | CURSOR_EVENT);
 }
 
+static void switch_checks(const struct settings *said)
+{
+    shadow_switch(&(struct switches){
+        .has_whole_strings = said->whole_strings,
+        .has_no_containers = !said->containers,
+        .has_no_poison = !said->user_poison,
+        .has_no_counts = !said->counts,
+        .has_no_formats = !said->formats,
+        .has_short_memcmp = !said->whole_memcmp,
+    });
+}
+
+/* Begins a recording: the stream, with a snapshot of the blocks and this many of those that are held. The heap is
+   locked. False: there is none. */
 static bool begin(uint64_t most_held)
 {
     process.settings.is_full |= atomic_load(&is_to_be_full);
@@ -132,6 +147,8 @@ static bool begin(uint64_t most_held)
         heap_keep_call_sites();
     heap_check_families(process.settings.mismatches, process.settings.other_sizes);
     heap_check_requests(!process.settings.may_return_null);
+    heap_keep_empty(process.settings.keeps_empty);
+    switch_checks(&process.settings);
     if (!open_stream())
         return false;
     heap_set_bound(process.settings.quarantine);
@@ -197,8 +214,8 @@ bool recorder_begins_late(void)
 bool recorder_begin_late(void)
 {
     if (heap_is_entered()) {
-        recorder_say("nothing is recorded: ", "a signal handler", "it came in the middle of an allocation");
-        hub_word_note(process.settings.hub, "its first fault came in the middle of an allocation");
+        recorder_say("nothing is recorded: ", "a signal handler", "it interrupted the allocator");
+        hub_word_note(process.settings.hub, "its first fault interrupted the allocator");
         return false;
     }
     struct disturbance before;
@@ -304,6 +321,7 @@ void recorder_finish_in_handler(int number)
     stream_say_left_out();
 }
 
+/* Before an exec. True: the heap stays locked for the exec, unless the stream has ended at its limit. */
 static bool leave_for_exec(void)
 {
     if (!recorder_is_own_process()) {
@@ -312,10 +330,11 @@ static bool leave_for_exec(void)
     }
     if (stream_state() == STATE_OFF)
         return false;
+    uint64_t generation = library_generation(); /* the loader's lock is taken by who has none of ours */
     /* Nobody switches to another segment from here on. */
     heap_lock();
     enum state state = stream_state();
-    if (state == STATE_RECORDING && stream_suspend())
+    if (state == STATE_RECORDING && stream_suspend(generation))
         return true;
     heap_unlock();
     if (state != STATE_AT_LIMIT)
@@ -379,7 +398,7 @@ static const char *why_unrecorded(void)
 {
     if (process.settings.socket != NULL)
         return "each connection is one process that was counted before";
-    return process.forked_inside ? "it came in the middle of an allocation" : NULL;
+    return process.forked_inside ? "it interrupted the allocator" : NULL;
 }
 
 /* A hub learns of the child by a stream that is lost. */
@@ -391,6 +410,7 @@ static void say_unrecorded(const char *why)
         recorder_say("a forked child is not recorded: ", output_name(), why);
 }
 
+/* One thread is there, with the locks that before_fork took: the child begins a recording of its own, or none. */
 static void after_fork_in_child(void)
 {
     bool recorded = forks_recorded();

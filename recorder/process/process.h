@@ -1,6 +1,13 @@
-/* What happens to the stream when the process starts, forks, and ends.
+/* What happens to the stream when the process starts, forks, and ends. The program's fork, exec and exit come here, and
+   the settings are kept here.
 
-   Called: by the start, forks, execs and ends, in the thread that does these; an end by a signal in its handler. */
+   Called: recorder_start and recorder_watch_forks by start.c, in the thread that starts the recorder; what begins a
+   recording later by preload_wait.c, halt.c and compiled code, in any thread, perhaps in a signal handler;
+   recorder_finish, recorder_exit and recorder_before_exec by the program's calls, recorder_finish_in_handler by
+   signals.c in a handler; the handlers of a fork by the C library; and the questions by anybody. Lock: the caller has
+   none of the recorder's, but a handler may have interrupted the allocator: then no recording begins. What begins a
+   recording takes the allocator's and then the stream's (README.md has the order), what ends one the stream's alone; a
+   question takes none. Nothing is allocated. */
 #ifndef ASANCOL_PROCESS_H
 #define ASANCOL_PROCESS_H
 
@@ -10,7 +17,7 @@
 
 struct settings;
 
-/* Begins the stream, unless that was done. */
+/* Begins the stream by the settings of the environment, unless that was done. */
 void recorder_start(void);
 /* Forks of the process are seen from now on. */
 void recorder_watch_forks(void);
@@ -18,10 +25,11 @@ void recorder_watch_forks(void);
 void recorder_say_child(void);
 /* Whether ASANCOL_HALT=2 has put off the recording until the first fault. */
 bool recorder_begins_late(void);
-/* Begins it. False: it can't be, and a line said why. */
+/* Begins a recording that was put off. False: it can't be, and a line said why. */
 bool recorder_begin_late(void);
-/* Whether this is preloaded and records nothing yet; and whether checks end that, or a fault alone. */
+/* Whether this is preloaded and records nothing yet. */
 bool recorder_waits(void);
+/* Whether checks end that wait; else a fault alone does. */
 bool recorder_waits_for_checks(void);
 /* Begins the recording, if it waits: else, or if it can't begin, it answers false, and a line has said why it can't. */
 bool recorder_end_waiting(void);
@@ -37,13 +45,15 @@ const char *recorder_hub(void);
 bool recorder_go_full(void);
 /* Whether calls that plain libraries make are checked, by its settings. */
 bool recorder_checks_libraries(void);
+/* At an end without handlers, by halt.c; in a child of vfork nothing is ended but its frames. */
 void recorder_finish(enum finish finish);
 /* At an exit. `is_last`: none of the process's handlers and destructors is still to come. */
 void recorder_exit(bool is_last);
 /* In a handler of a signal that ends the process: without a close, and without waiting for other threads for ever. */
 void recorder_finish_in_handler(int number);
-/* Before an exec. False: there is nothing to take back. */
+/* Before an exec: the stream is suspended, and the allocator's lock is kept. False: there is nothing to take back. */
 bool recorder_before_exec(void);
+/* The exec has failed: the stream continues. */
 void recorder_exec_failed(void);
 
 #endif

@@ -1,3 +1,5 @@
+/* Each thread gets a stack for handlers if it has none: that of its frames may be used up. `left` is one that a thread
+   which has ended has left. */
 #define _GNU_SOURCE
 #include "process/signal_stack.h"
 
@@ -10,8 +12,6 @@
 #include "base/platform.h"
 #include "base/system.h"
 #include "shadow/shadow.h"
-
-/* Each thread gets a stack for handlers if it has none: that of its frames may be used up. */
 
 static bool is_wanted; /* written before there is a second thread */
 

@@ -17,6 +17,7 @@
 #include "base/system.h"
 #include "libc/library.h"
 #include "process/process.h"
+#include "process/root.h"
 #include "process/signal_stack.h"
 #include "shadow/mapping.h"
 #include "stream/faults.h"
@@ -71,6 +72,7 @@ void signals_note_abort(uintptr_t caller)
 /* An access so near the stack pointer finds no memory only if the stack is used up: as AddressSanitizer has it. */
 enum { BELOW_STACK_POINTER = 512, ABOVE_STACK_POINTER = 0xffff };
 
+/* By a load, a store or a jump, as the processor says (SIDE_BY_LOAD ..), and whether the stack is used up. */
 static uint32_t how_accessed(int number, uint64_t address, const ucontext_t *context)
 {
     uint64_t stack = CONTEXT_STACK(context);
@@ -200,6 +202,7 @@ static bool has_to_wait(int number, siginfo_t *info, ucontext_t *context)
     return true;
 }
 
+/* The handler of signals whose action is the default: it ends the recording, and then lets the signal do its work. */
 static void on_ending(int number, siginfo_t *info, void *context)
 {
     if (number == SIGBUS && info->si_code > 0 && stream_has_lost(info->si_addr))
@@ -216,6 +219,9 @@ static void on_ending(int number, siginfo_t *info, void *context)
         }
         recorder_finish_in_handler(number);
     }
+    int of_run = root_end(number);
+    if (of_run != STATUS_STAYS)
+        system_exit(of_run);
     act_by_default(number);
     /* A fault comes again by itself, and with what the kernel says of it. */
     if (!is_fault(number, info))

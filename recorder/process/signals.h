@@ -1,7 +1,10 @@
 /* Signals that end the process, handled.
 
-   Called: signals_handle at the start, signals_set_action by the program, and the handlers by the kernel, in any
-   thread. */
+   Called: signals_handle by start.c, or preload_wait.c when a preloaded recorder begins; signals_set_action and
+   signals_note_abort by the program's calls, in any thread, also in a handler; signals_abort by halt.c. The handlers
+   are called by the kernel, in any thread, whatever it does just now. Lock: the callers have none; the handlers take
+   the stream's to end it, except if the recorder's own code has met the fault: this thread may have it. Nothing is
+   allocated. */
 #ifndef ASANCOL_SIGNALS_H
 #define ASANCOL_SIGNALS_H
 

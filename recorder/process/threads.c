@@ -194,6 +194,7 @@ static void keep(struct span frames)
     atomic_store(&kept[place].frame, frames.low);
 }
 
+/* Gives a coroutine that goes on its redzones again. False: none were kept for this stack pointer. */
 static bool put_back(uintptr_t frame)
 {
     size_t place = place_for(frame);
@@ -400,6 +401,7 @@ void threads_visit_waiting(void (*visit)(uintptr_t argument))
             visit((uintptr_t)starts[i].argument);
 }
 
+/* A free place in the table, taken; or null. */
 static struct start *take_start(void)
 {
     for (int i = 0; i < STARTS; i++) {
@@ -527,6 +529,7 @@ static OF_PROGRAM uintptr_t target_of(const void *to)
 #endif
 }
 
+/* A jump of the program leaves the frames below its target. */
 static void frames_left_by_jump(uintptr_t frame, uintptr_t target)
 {
     stack_frames_left(frame);

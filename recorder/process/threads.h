@@ -1,6 +1,9 @@
-/* The stacks of threads.
+/* The stacks of threads: their shadow, as frames are left and stacks change hands.
 
-   Called: by the program's calls, compiled code and the stream, in the thread that it is about, also in a handler. */
+   Called: by the program's calls (by hooks.def), in the thread that the stack is of, also in a signal handler; and
+   stack_has_frame and stack_is_own_frame by the stream, through `above` (state.h), in the thread with the fault.
+   threads_visit_waiting by roots.c while all other threads stand still. Lock: none: a thread's data are its own, and
+   tables that threads share are atomic. Nothing is allocated. */
 #ifndef ASANCOL_THREADS_H
 #define ASANCOL_THREADS_H
 

@@ -1,5 +1,8 @@
-/* A list of lines beside the stream, made anew from the map of modules and the notes of their links when modules have
-   changed. */
+/* A list of lines, which goes beside the stream. When modules have changed it is kept, and gets lines by the map of
+   modules and the notes of their links; only its last line, "+N" for N that had no room, is made anew.
+
+   dlsym is the C library's (`library`), since a program may define that name. memmove and the like are the recorder's
+   own (own.c), by whichever name they are called. */
 #define _GNU_SOURCE
 #include "process/unchecked.h"
 
@@ -97,6 +100,7 @@ static void put(struct list *list, const char *text, size_t length)
     list->length += length;
 }
 
+/* Adds the line that is made of these two, or counts it if there is no room. */
 static void add(struct list *list, const char *front, const char *text, size_t length)
 {
     if (find_line(list, front, text, length) != NULL)
@@ -110,6 +114,7 @@ static void add(struct list *list, const char *front, const char *text, size_t l
     put(list, "\n", 1);
 }
 
+/* Removes the line that is made of these two, if it is there. */
 static void take_away(struct list *list, const char *front, const char *text, size_t length)
 {
     char *line = find_line(list, front, text, length), *end = list->lines + list->length;
@@ -121,7 +126,7 @@ static void take_away(struct list *list, const char *front, const char *text, si
     list->length -= size;
 }
 
-/* Those of the list as it is, except how many more there are, which is counted again. */
+/* The list as it is, without the line that says how many more there are: these are counted again. */
 static struct list begin(char *lines)
 {
     struct list list = {lines, 0, 0};
@@ -191,8 +196,8 @@ static bool is_of_language(struct name name)
 static void add_plain(struct list *list, const struct map_line *first, struct name name)
 {
 #ifndef IS_STATIC
-    static const char off[] = "calls of libraries (ASANCOL_LIBRARIES=0)";
-    static const char unknown[] = "calls of libraries (the link knew of none)";
+    static const char off[] = "calls by libraries (ASANCOL_LIBRARIES=0)";
+    static const char unknown[] = "calls by libraries (none known at link time)";
     bool may_call = !is_of_language(name) && !begins_with(name.text, "libmvec.so");
     if (!recorder_checks_libraries() && !plain_is_of_library(name.text))
         add(list, "", off, sizeof off - 1);
@@ -206,7 +211,7 @@ static void add_plain(struct list *list, const struct map_line *first, struct na
 /* Adds what the link of a module has noted. */
 static void add_noted(struct list *list, const char *text, struct name module)
 {
-    static const char unknown[] = "what was linked into ";
+    static const char unknown[] = "unknown objects in ";
     if (!begins_with(text, LINK_NOTE_KNOWN)) {
         add(list, unknown, module.text, module.length);
         return;

@@ -1,6 +1,9 @@
 /* What of the process was not checked: code that asancol-cc did not compile, and blocks of other allocators.
 
-   Called: unchecked_start at the start; the list with the lock of the stream (`above`). */
+   Called: unchecked_start by start.c, once, while there is one thread. unchecked_note_malloc by the program's dlopen
+   (by hooks.def), in the thread that opens the library, with no lock of the recorder's: it asks the loader.
+   unchecked_list and unchecked_state by the stream (modules.c), through the table `above` (state.h), with the lock of
+   the stream: in any thread, also in a signal handler. Nothing is allocated. */
 #ifndef ASANCOL_UNCHECKED_H
 #define ASANCOL_UNCHECKED_H
 
@@ -11,9 +14,10 @@ void unchecked_start(void);
 /* A library was opened with RTLD_DEEPBIND: it calls the malloc that it finds itself, or those do that it brings. */
 void unchecked_note_malloc(void *opened);
 /* Adds to a list, which has SIDE_UNCHECKED_ROOM bytes, what this map of modules has and is not in it yet: lines, and
-   zeros after them. The lock of the stream is held. */
+   zeros after them. A malloc that turns out to take its blocks from the recorder's is removed. The list is the stream's
+   own: the copy beside the trace, which others read, is made after that. */
 void unchecked_list(char *list, const char *maps);
-/* What the list says beside that of a map: another number if it may say something else. */
+/* A number for what the list has from elsewhere than the map: another one if the list may be another one. */
 uint64_t unchecked_state(void);
 
 #endif

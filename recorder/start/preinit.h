@@ -1,6 +1,6 @@
 /* Before the resolvers of a program. Of the C library nothing may be called then.
 
-   Called: by the dynamic linker, before all else. */
+   Called: by preinit.c, which the dynamic linker calls before all else, in the only thread; no lock. */
 #ifndef ASANCOL_PREINIT_H
 #define ASANCOL_PREINIT_H
 

@@ -6,6 +6,7 @@
 
 #include "base/disturbance.h"
 #include "base/self.h"
+#include "base/system.h"
 #include "libc/library.h"
 #include "heap/arena.h"
 #include "heap/book.h"
@@ -18,6 +19,7 @@
 #include "process/halt.h"
 #include "process/own_run.h"
 #include "process/process.h"
+#include "process/root.h"
 #include "process/signals.h"
 #include "process/threads.h"
 #include "process/unchecked.h"
@@ -34,6 +36,7 @@
 
 static struct {
     bool is_registered, handlers_are_over, destructors_are_over;
+    int status;
 } ends;
 
 /* The C library flushes its streams after all handlers, and that may call the program (fopencookie). Leaks are looked
@@ -48,6 +51,15 @@ static void end_at_exit(bool is_last)
     if (is_last && is_own && stream_has_one_end())
         library._IO_flush_all();
     recorder_exit(is_last);
+    int of_run = is_last && is_own ? root_end_at_exit((ends.status & 0xff) << 8) : STATUS_STAYS;
+    if (of_run != STATUS_STAYS)
+        library.exit(of_run); /* which goes on with the handlers that remain */
+}
+
+static void note_status(int status, void *unused)
+{
+    (void)unused;
+    ends.status = status;
 }
 
 static void after_handlers(void *unused)
@@ -70,6 +82,9 @@ static void after_quick_handlers(void *unused)
 {
     (void)unused;
     recorder_exit(true);
+    int of_run = root_end_at_exit(0); /* the C library tells no status here */
+    if (of_run != STATUS_STAYS)
+        system_exit(of_run);
 }
 
 /* The object for which they are registered is none that is ever closed. */
@@ -77,6 +92,7 @@ static void register_ends(void)
 {
     ends.is_registered = library.__cxa_atexit(after_handlers, NULL, &ends) == 0;
     library.__cxa_at_quick_exit(after_quick_handlers, &ends);
+    library.on_exit(note_status, NULL);
 }
 
 __attribute__((section(".fini_array.00000"), used)) static void (*last_destructor)(void) = after_destructors;

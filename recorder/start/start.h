@@ -1,6 +1,7 @@
 /* The recorder's start.
 
-   Called: by first_call.c, or by a bad access before that (`above`); it is done once. */
+   Called: by first_call.c, or by stream/places.c for a bad access before that (`above`, stream/state.h), in the only
+   thread; it is done once. Lock: none is held; the allocator's is taken while the stream is opened. */
 #ifndef ASANCOL_START_H
 #define ASANCOL_START_H
 

@@ -28,7 +28,7 @@ def build(compiler: str, folder: str, program: str) -> None:
 
 # The library's calls are not seen.
 UNSEEN = {"ASANCOL_LIBRARIES": "0"}
-LIBRARIES = "calls of libraries (ASANCOL_LIBRARIES=0)"
+LIBRARIES = "calls by libraries (ASANCOL_LIBRARIES=0)"
 
 
 def check_exits(suite: Suite, folder: str, program: str) -> None:
@@ -92,7 +92,7 @@ def check_forbidden(suite: Suite, folder: str, program: str) -> None:
     program that it starts, would have done is not seen."""
     for forbidden, what in (("send", "allocate"), ("link", "spawn"), ("link", "vfork"), ("link", "exec")):
         ran = suite.run("--", program, "forbidden", forbidden, what, ASANCOL_REPORT=REPORT)
-        expect_ran(ran, 98, "ended in a call of the recorder's own", "; 1 INCOMPLETE")
+        expect_ran(ran, 98, "ended in a system call of the recorder", "; 1 INCOMPLETE")
         ran = suite.run("--", program, "forbidden", "none", what, ASANCOL_REPORT=REPORT)
         expect_ran(ran, 0 if what == "vfork" else 99, absent=["INCOMPLETE"])
     for forbidden in ("send", "link"):
@@ -108,7 +108,7 @@ def check_spawns(suite: Suite, folder: str, program: str) -> None:
     ran = suite.run("--wait", "0", "--", "sh", "-c", line)
     expect_ran(ran, 0, "4 processes", NOT_CHECKED, absent=["ended abruptly", "INCOMPLETE"])
     ran = suite.run("-v", "--", program, "spawns", "1", program)
-    expect_ran(ran, 0, "complete: went on as another program", "3 processes", NOT_CHECKED,
+    expect_ran(ran, 0, "complete: continued as another program", "3 processes", NOT_CHECKED,
                absent=["ended abruptly", "INCOMPLETE"])
     ran = suite.run("-v", "--", program, "spawns", "1", program, **UNSEEN)
     expect_ran(ran, 0, "ran another program, by an exec in a library", "3 processes", LIBRARIES,

@@ -1,6 +1,7 @@
 """What a user of AddressSanitizer has already: ASAN_OPTIONS, LSAN_OPTIONS, and functions of the program."""
 
 import glob
+import os
 import re
 import subprocess
 from typing import List, Tuple
@@ -10,7 +11,8 @@ from support import REPORT, SANITIZE, TOP, Suite, expect, expect_in, expect_ran,
 from testing.programs import call, compilers_there
 
 PAST = "heap-buffer-overflow: store of 1 byte"
-NOTE = ("asancol: ASAN_OPTIONS: without effect here: log_to_syslog=1, strict_string_checks=1; "
+SOURCES = f"{TOP}/recorder/out/suites/sources/llvm-toolchain-14/compiler-rt/lib"
+NOTE = ("asancol: ASAN_OPTIONS: without effect here: log_to_syslog=1, start_deactivated=1; "
         "unknown: halt_on_eror=1 (is halt_on_error meant?), x\n")
 
 
@@ -39,14 +41,14 @@ def check_statuses(suite: Suite, folder: str) -> None:
 
 def check_named(suite: Suite, folder: str) -> None:
     """What has no effect and could change a result is said once, and the rest with --verbose."""
-    words = "halt_on_eror=1,log_to_syslog=1 symbolize=0:strict_string_checks=1:detect_write_exec=0:x:exitcode=3"
+    words = "halt_on_eror=1,log_to_syslog=1 symbolize=0:start_deactivated=1:detect_write_exec=0:x:exitcode=3"
     ran = suite.run("--", suite.program, "sound", ASAN_OPTIONS=words, ASANCOL_REPORT=REPORT)
     expect_ran(ran, 0, NOTE, absent=["symbolize"])
     ran = suite.run("-v", "--exitcode=4", "--", "sh", "-c", f"{suite.program} past; {suite.program} past",
                     ASAN_OPTIONS=words, ASANCOL_REPORT=REPORT)
     expect_ran(ran, 4, NOTE, "asancol: ASAN_OPTIONS: the command line or an ASANCOL variable wins: exitcode=3\n",
                "asancol: ASAN_OPTIONS: no report depends on symbolize=0, detect_write_exec=0\n")
-    expect(ran.err.count("strict_string_checks"), 1, "once")
+    expect(ran.err.count("start_deactivated"), 1, "once")
     expect_ran(suite.run("-q", "--", suite.program, "sound", ASAN_OPTIONS=words), 0, absent=["asancol"])
 
 
@@ -68,9 +70,30 @@ def check_leaks(suite: Suite, folder: str) -> None:
     ran(0, f"LSAN_OPTIONS: without effect here: suppressions={folder}/no\n", LSAN_OPTIONS=f"suppressions={folder}/no")
 
 
+def check_relative_rules(suite: Suite, folder: str) -> None:
+    """A relative file of suppressions is looked for in the current folder, and then in that of the command's file."""
+    program = make(folder, "gcc")
+    for name in ("bin", "away"):
+        os.mkdir(f"{folder}/{name}")
+    os.symlink(program, f"{folder}/bin/linked")
+    write_text(f"{folder}/known", "leak:^lose$\n")
+
+    def ran(status: int, text: str, *argv: str, cwd: str = "away", **settings: str) -> None:
+        done = suite.run("--leaks=yes", "--", *argv, cwd=f"{folder}/{cwd}", ASANCOL_REPORT=REPORT,
+                         LSAN_OPTIONS="suppressions=known", **settings)
+        expect_ran(done, status, text)
+    ran(0, "no reports, 1 suppressed;", program)
+    ran(0, "no reports, 1 suppressed;", "../bin/linked")
+    ran(0, "no reports, 1 suppressed;", "linked", PATH=f"{folder}/bin:{os.environ['PATH']}")
+    ran(99, "LSAN_OPTIONS: without effect here: suppressions=known\n", "sh", "-c", program)
+    write_text(f"{folder}/away/known", "leak:nothing\n")
+    ran(99, "Direct leak of 300 byte(s)", program)
+    ran(0, "no reports, 1 suppressed;", "sh", "-c", program, cwd=".")
+
+
 OF_PROGRAM = """
 const char *__asan_default_options(void) {
-    return "alloc_dealloc_mismatch=0:quarantine_size_mb=3:strict_string_checks=1:symbolize=0:detect_leaks=DETECT"; }
+    return "alloc_dealloc_mismatch=0:quarantine_size_mb=3:start_deactivated=1:symbolize=0:detect_leaks=DETECT"; }
 const char *__lsan_default_suppressions(void) { return "# known\\nleak:^lose$\\n"; }
 """
 
@@ -118,7 +141,7 @@ def check_functions(suite: Suite, folder: str) -> None:
     for leaks, option, text in ("1", "yes", "no reports, 1 suppressed; "), ("0", "summary", "no reports; "):
         program = make(folder, "gcc", PROGRAM + OF_PROGRAM.replace("DETECT", leaks))
         ran = suite.run(f"--leaks={option}", "--", program, ASANCOL_REPORT=REPORT)
-        expect_ran(ran, 0, text, "strict_string_checks=1 (__asan_default_options)", "families and sizes of frees",
+        expect_ran(ran, 0, text, "start_deactivated=1 (__asan_default_options)", "families and sizes of frees",
                    absent=["symbolize", "asancol: leaks:"])
 
 
@@ -150,7 +173,7 @@ def check_mismatches(suite: Suite, folder: str) -> None:
 
 def check_mistakes(suite: Suite, folder: str) -> None:
     """A command in quotes, and AddressSanitizer's runtime that is preloaded, are named."""
-    expect_ran(suite.run("--", f"{suite.program} sound"), 127, " sound: no such file: it is one word, and no shell")
+    expect_ran(suite.run("--", f"{suite.program} sound"), 127, " sound: no such file: the command is one word")
     expect_ran(suite.run("--", f"{folder}/not there", "x"), 127, "not there: No such file or directory")
     library = call(["gcc", "-print-file-name=libasan.so"], stdout=subprocess.PIPE, text=True, check=True).stdout.strip()
     if library != "libasan.so":
@@ -158,10 +181,45 @@ def check_mistakes(suite: Suite, folder: str) -> None:
         expect_ran(ran, 98, "asancol: libasan.so.", " was in a process: ", "is it in LD_PRELOAD?")
 
 
+def table() -> List[Tuple[str, str, str]]:
+    """Returns the name of each option, what happens to it, and the value that it has here."""
+    with open(f"{TOP}/common/asan_options.def", encoding="utf-8") as file:
+        return re.findall(r'^OPTION\((\w+), (\w+), "([^"]*)"', file.read(), re.M)
+
+
+def check_fates(suite: Suite, folder: str) -> None:
+    """With another value than the one that it has here each option is named, except those on which no report
+    depends."""
+    rows = [it for it in table() if it[1] in ("FIXED", "HARMLESS")]
+    for some in (rows[at:at + 30] for at in range(0, len(rows), 30)):
+        words = ":".join(f"{name}=7" for name, _, _ in some)
+        ran = suite.run("--", suite.program, "sound", ASAN_OPTIONS=words, ASANCOL_REPORT=REPORT)
+        named = ", ".join(f"{name}=7" for name, fate, _ in some if fate == "FIXED")
+        expect(re.findall(r"without effect here: (.*)", ran.err), [named] if named else [], "what is named")
+    words = ":".join(f"{name}={value}" for name, fate, value in rows if fate == "FIXED")
+    ran = suite.run("--", suite.program, "sound", ASAN_OPTIONS=words, ASANCOL_REPORT=REPORT)
+    expect_ran(ran, 0, absent=["ASAN_OPTIONS"])
+
+
+# The lists in compiler-rt's sources, and the words before each option.
+LISTS = {"asan/asan_flags.inc": "ASAN_FLAG", "lsan/lsan_flags.inc": "LSAN_FLAG",
+         "sanitizer_common/sanitizer_flags.inc": "COMMON_FLAG"}
+
+
+def check_listed_options(suite: Suite, folder: str) -> None:
+    """The table has each option in compiler-rt's lists, if check-suites has fetched its sources."""
+    known = {name for name, _, _ in table()}
+    for path, word in LISTS.items():
+        with open(f"{SOURCES}/{path}", encoding="utf-8") as file:
+            text = file.read()
+        names = re.findall(rf"^{word}\([^,]*,\s*(\w+)", text, re.M)
+        expect(len(names) > 10 and len(names), len(re.findall(rf"^{word}\(", text, re.M)), f"the options in {path}")
+        expect(sorted(set(names) - known), [], path)
+
+
 def check_same_options(suite: Suite, folder: str) -> None:
     """The table has each option that the runtimes of the compilers here print."""
-    with open(f"{TOP}/common/asan_options.def", encoding="utf-8") as file:
-        known = re.findall(r"^OPTION\((\w+),", file.read(), re.M)
+    known = [name for name, _, _ in table()]
     expect(len(known), len(set(known)), "each once")
     write_text(f"{folder}/m.c", "int main(void) { return 0; }\n")
     for compiler in compilers_there():
@@ -181,5 +239,10 @@ def tests(suite: Suite) -> None:
         ("statuses", check_statuses), ("named", check_named), ("leaks", check_leaks), ("functions", check_functions),
         ("death test", check_death_test),
         ("mismatches", check_mismatches), ("mistakes", check_mistakes), ("same options", check_same_options),
+        ("relative suppressions", check_relative_rules), ("fates", check_fates),
     ):
         suite.test(f"asan: {name}", run)
+    if os.path.isdir(SOURCES):
+        suite.test("asan: listed options", check_listed_options)
+    else:
+        leave_out("asan: the sources of compiler-rt, which check-suites fetches, are not there")

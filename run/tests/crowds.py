@@ -96,9 +96,9 @@ def check_full_disk(suite: Suite, folder: str, program: str) -> None:
 
 
 BESIDES = {
-    "garbage": (f'python3 -c "{GARBAGE}";', "what came last was not seen"),
+    "garbage": (f'python3 -c "{GARBAGE}";', "its last events were not seen"),
     "a silent one": ("{crowd} 1 silent;", "it was not recorded, or not by this run"),
-    "one that never ends": ("{program} sleeps 20 > /dev/null 2>&1 &", "still ran at the end of asancol-run"),
+    "one that never ends": ("{program} sleeps 20 > /dev/null 2>&1 &", "was still running at the end of asancol-run"),
 }
 
 

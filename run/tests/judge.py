@@ -41,23 +41,23 @@ class End(NamedTuple):
 GONE = "close=0 ending=0 kill=9"
 # For each row, in their order.
 ENDS = [
-    End("still ran at the end of asancol-run", test="lives.check_orphan_for_too_long"),
+    End("was still running at the end of asancol-run", test="lives.check_orphan_for_too_long"),
     End("was ended by --timeout", test="lives.check_time_limit"),
     End("its checker was ended by CHECKER", test="lives.check_killed_checker"),
     End("its checker printed no verdict, and ended with status CHECKER", test="statuses.check_other_checker"),
-    End("died in the recorder, by SIGNAL: a mistake of asancol's, or of a wrong store into its memory",
+    End("died in the recorder, by SIGNAL: a bug in asancol, or a wild store into its memory",
         "close=0 ending=3 signal=11 kill=11 inside=11"),
     End("reached the event limit: LEFT of ALL events were not recorded, since ASANCOL_SEGMENTS is 0",
         test="feeds.check_second_message"),
     End("reached the event limit: LEFT of ALL events were not recorded", "close=0 is_at_limit=1 left_out=3"),
     End("reached the event limit, and was not seen to end", f"{GONE} is_at_limit=1"),
-    End("ended in a call of the recorder's own, or before an exec, as by SIGKILL or a filter of system calls",
+    End("ended in a system call of the recorder, or before an exec, such as by SIGKILL or a system call filter",
         "close=0 ending=0 kill=31 calls=1", test="abrupt.check_forbidden"),
     End("its recorder had no room for LOST of its findings", "findings_lost=2"),
-    End("leaks of it were not looked for, as if a thread does not stop", "leaks_missed=1", ["--leaks=yes"],
+    End("its leaks were not looked for, such as when a thread does not stop", "leaks_missed=1", ["--leaks=yes"],
         test="leaks.check_stuck"),
-    End("what stands beside its trace contradicts itself, as after a wild store there", "findings=1"),
-    End("no code of it was compiled by asancol-cc", f"{GONE} has_checks=0"),
+    End("the data beside its trace are inconsistent, such as after a wild store", "findings=1"),
+    End("none of its code was compiled by asancol-cc", f"{GONE} has_checks=0"),
     End("ran another program, by an exec in a library", "close=0 ending=0 exec=1", test="abrupt.check_spawns"),
     End("ran another program, by an exec in a library", "close=0 ending=0 exec=1 has_begun=0"),
     End("ended abruptly, HOW", GONE, test="abrupt.check_exits"),
@@ -70,13 +70,13 @@ ENDS = [
         test="closed.check_one_segment"),
     End("its recording ended early", "close=0 ending=4"),
     End("ended abruptly, HOW: MISSING", f"{GONE} needed=20", test="abrupt.check_burst"),
-    End("ended abruptly, as by SIGKILL, or an _exit or exec in a library, or still running",
+    End("ended abruptly, such as by SIGKILL, or by an _exit or exec in a library, or still running",
         test="report.trace_of_a_killed_process"),
-    End("ended abruptly, HOW: what came last was not seen", f"{GONE} beside=0"),
+    End("ended abruptly, HOW: its last events were not seen", f"{GONE} beside=0"),
     End("it ended: MISSING", "noted=1"),
     End("its trace ended as FATE", "close=0 events=20", test="segments.check_incomplete"),
-    End("its findings and leaks are not known, since nothing stands beside its trace: CAUSE", "beside=0"),
-    End("no code of it was compiled by asancol-cc", "has_checks=0"),
+    End("its findings and leaks are unknown, since there are no data beside its trace: CAUSE", "beside=0"),
+    End("none of its code was compiled by asancol-cc", "has_checks=0"),
     End("ended by SIGNAL", "close=0 ending=3 signal=11 kill=11", test="whole.check_crash"),
     End("ended by SIGNAL before main", "close=0 ending=3 signal=15 kill=15 has_begun=0 sender=1",
         test="unheard.check_killed"),
@@ -244,8 +244,8 @@ def check_end_lines(suite: Suite, folder: str) -> None:
 def check_files(suite: Suite, folder: str) -> None:
     """asancol-run --files is for asancol-report alone."""
     expect_ran(suite.run("--files", "1:x.trace"), 125, "standard output is not a socket")
-    expect_ran(suite.run("--files"), 125, "there is no command")
-    expect_ran(suite.run("--fil"), 125, "there is no option --fil", absent=["--files"])
+    expect_ran(suite.run("--files"), 125, "no command was given")
+    expect_ran(suite.run("--fil"), 125, "unknown option --fil", absent=["--files"])
 
 
 def tests(suite: Suite) -> None:

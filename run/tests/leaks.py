@@ -58,7 +58,7 @@ def check_forms(suite: Suite, folder: str, compiler: str) -> None:
                "asancol: 3 reports at 3 places (3 by the recorder); 1 process, ", "\nSUMMARY: asancol: leak ",
                absent=["asancol: leaks:"])
     ran = run_it(suite, "--leaks=maybe", "--", program)
-    expect_ran(ran, 125, "asancol-run: --leaks: maybe is not one of summary, no and yes\n")
+    expect_ran(ran, 125, "asancol-run: --leaks: 'maybe' is not one of summary, no and yes\n")
 
 
 def check_rules(suite: Suite, folder: str, compiler: str) -> None:
@@ -144,9 +144,9 @@ def check_stuck(suite: Suite, folder: str, compiler: str) -> None:
     program = make(folder, compiler, STUCK, "-pthread")
     said = f"asancol: leaks are not looked for: {program}: a thread does not stop\n"
     ran = run_it(suite, "--leaks=yes", "--", program)
-    expect_ran(ran, 98, said, "INCOMPLETE: leaks of it were not looked for, as if a thread does not stop\n")
+    expect_ran(ran, 98, said, "INCOMPLETE: its leaks were not looked for, such as when a thread does not stop\n")
     ran = run_it(suite, f"--json={folder}/out.json", "--", program)
-    note = "asancol: leaks of a process were not looked for, as if a thread does not stop\n"
+    note = "asancol: leaks of a process were not looked for, such as when a thread does not stop\n"
     expect_ran(ran, 7, said, "all complete\n", note)
     expect_in(suite.run_argv([REPORT, f"{folder}/out.json"]).out, note)
     expect_ran(run_it(suite, "--leaks=no", "--", program), 7, "all complete\n", absent=["leaks"])
@@ -189,8 +189,8 @@ def check_filtered(suite: Suite, folder: str, compiler: str) -> None:
     leaves at once, as in strict mode, ends as without the recorder: nobody looks for leaks then."""
     program = make(folder, compiler, FILTERED)
     for how, status, said in ((["strict", "leaves"], 7, "ended abruptly, with status 7: seen up to there"),
-                              (["kill"], 98, "INCOMPLETE: ended in a call of the recorder's own, "),
-                              (["errno"], 98, "INCOMPLETE: leaks of it were not looked for, ")):
+                              (["kill"], 98, "INCOMPLETE: ended in a system call of the recorder, "),
+                              (["errno"], 98, "INCOMPLETE: its leaks were not looked for, ")):
         expect_ran(run_it(suite, "--leaks=yes", "--", program, *how), status, said)
     expect_ran(run_it(suite, "--", program, "errno"), 7, "all complete\n", "leaks of a process were not looked for")
 

@@ -69,7 +69,7 @@ def check_used_again(suite: Suite, folder: str, compiler: str) -> None:
     """Live blocks keep the pages of freed ones. If these are too many, it is said; by default they are not yet."""
     argv = [CC, "-O1", "-w", "-pthread", f"{RECORDED}/lean.c", "-o", "program"]
     call(argv, cwd=folder, check=True, env={**os.environ, "ASANCOL_CC": compiler})
-    line = "./program: handed out freed memory again after "
+    line = "./program: reused freed memory after "
     for quarantine, full, has_line in (("1000000", "", True), ("", "", False), ("1000000", "1", False)):
         settings = {"ASANCOL_QUARANTINE": quarantine, "ASANCOL_FULL": full}
         ran = suite.run("--json=result", "--", "./program", "scattered", "200000", cwd=folder, ASANCOL_REPORT=REPORT,

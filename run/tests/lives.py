@@ -19,7 +19,7 @@ def check_orphan(suite: Suite, folder: str, way: str) -> None:
 def check_orphan_for_too_long(suite: Suite, folder: str) -> None:
     begun = time.monotonic()
     ran = suite.run("--wait", "0.5", "--", "sh", "-c", f"{suite.program} orphan 3 > /dev/null 2>&1")
-    expect_ran(ran, 98, "INCOMPLETE: still ran at the end of asancol-run", "processes of the command still run")
+    expect_ran(ran, 98, "INCOMPLETE: was still running at the end of asancol-run", "processes of the command still run")
     if time.monotonic() - begun > 2.5:
         raise Failure("it has waited")
 
@@ -28,7 +28,7 @@ def check_cut_process_runs_on(suite: Suite, folder: str) -> None:
     """A truncated one is not harmed."""
     mark = f"{folder}/ran-on"
     line = f"({suite.program} sleeps 1; touch {mark}) > /dev/null 2>&1 &"
-    expect_ran(suite.run("--wait", "0.2", "--", "sh", "-c", line), 98, "still ran at the end")
+    expect_ran(suite.run("--wait", "0.2", "--", "sh", "-c", line), 98, "was still running at the end")
     wait_until(lambda: os.path.exists(mark), "the end of the process")
 
 
@@ -61,7 +61,7 @@ def check_hurry(suite: Suite, folder: str) -> None:
     started = suite.start("--wait", "60", "--", suite.program, "orphan", "30")
     time.sleep(0.6)
     started.send_signal(signal.SIGTERM)
-    expect_ran(finish(started), 98, "still ran at the end")
+    expect_ran(finish(started), 98, "was still running at the end")
 
 
 def check_group_signal(suite: Suite, folder: str) -> None:
@@ -290,7 +290,7 @@ def check_short_for_ever(suite: Suite, folder: str) -> None:
     line = f"i=0; while [ $i -lt 30 ]; do {suite.program} sleeps 8 > /dev/null 2>&1 & i=$((i+1)); done; sleep 1"
     begun = time.monotonic()
     ran = suite.run_argv(["sh", "-c", f"ulimit -n 64; exec {RUN} --wait 1 -- sh -c '{line}'"])
-    expect_ran(ran, 98, "still ran at the end of asancol-run")
+    expect_ran(ran, 98, "was still running at the end of asancol-run")
     if time.monotonic() - begun > 7:
         raise Failure("it has waited")
 
@@ -312,7 +312,7 @@ def check_silent_peer(suite: Suite, folder: str) -> None:
         "os.fork() and os._exit(0); time.sleep(3)"
     )
     ran = suite.run("--wait", "0.5", "--", "sh", "-c", f'{suite.program} sound; python3 -c "{line}"')
-    expect_ran(ran, 98, "INCOMPLETE: still ran at the end of asancol-run")
+    expect_ran(ran, 98, "INCOMPLETE: was still running at the end of asancol-run")
 
 
 def check_garbage(suite: Suite, folder: str) -> None:

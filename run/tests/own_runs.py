@@ -1,12 +1,15 @@
-"""A program that becomes its own run, by ASANCOL_RUN or by --asancol-run at its link."""
+"""A program that starts its own run, by ASANCOL_RUN or by --asancol-run at its link."""
 
 import os
+import re
+import shutil
 import signal
 import subprocess
-from typing import List
+import time
+from typing import Any, List
 
 from lives import at_terminal
-from support import CC, REPORT, RUN, Ran, Suite, expect, expect_in, expect_not_in, expect_ran, write_text
+from support import CC, REPORT, RUN, Ran, Suite, expect, expect_in, expect_not_in, expect_ran, wait_until, write_text
 from testing.programs import Started, call
 
 PAST = "heap-buffer-overflow: store of 1 byte"
@@ -50,7 +53,6 @@ PROGRAM = """
 #include <unistd.h>
 int main(int count, char **argv) {
     char *volatile block = malloc(8);
-    if (count > 1 && strcmp(argv[1], "waits") == 0) { write(1, "x", 1); sleep(100); }
     block[7 + count] = 1;
     return strcmp(argv[0], "other") == 0; }
 """
@@ -76,15 +78,197 @@ def check_linked(suite: Suite, folder: str) -> None:
         expect_ran(suite.run("--", program, "x", ASANCOL_REPORT=REPORT, PATH=folders), 99, PAST, "1 process, ")
 
 
+LIVES = """
+#define _GNU_SOURCE
+#include <errno.h>
+#include <fcntl.h>
+#include <pthread.h>
+#include <signal.h>
+#include <stdio.h>
+#include <stdlib.h>
+#include <string.h>
+#include <sys/wait.h>
+#include <unistd.h>
+static void past(void) { char *volatile block = malloc(8); block[8] = 1; }
+static void on_signal(int number) { (void)number; write(1, "got it\\n", 7); }
+static void *reads(void *unused) { (void)unused; return getchar() == 0 ? NULL : NULL; }
+static int is(const char *word, const char *name) { return strcmp(word, name) == 0; }
+int main(int count, char **argv) {
+    const char *way = count > 1 ? argv[1] : "";
+    if (is(way, "place")) {
+        int is_alone = wait(NULL) < 0 && errno == ECHILD, first = dup(0);
+        printf("%d %d %d %d %d %d\\n", getpid(), getppid(), getsid(0), getpgrp(), is_alone, first);
+    } else if (is(way, "closes")) {
+        for (int i = atoi(argv[2]); i < 1000; i++) close(i);
+        past();
+    } else if (is(way, "handles")) {
+        sigset_t blocked, before;
+        sigemptyset(&blocked);
+        sigaddset(&blocked, SIGUSR1);
+        sigprocmask(SIG_BLOCK, &blocked, &before);
+        signal(SIGUSR1, on_signal);
+        write(1, "x", 1);
+        sigsuspend(&before);
+    } else if (is(way, "daemon")) {
+        if (fork() > 0) return 0;
+        setsid();
+        for (int i = 0; i < 2; i++) dup2(open("/dev/null", O_RDWR), i);
+        dup2(open(argv[2], O_WRONLY | O_CREAT | O_APPEND, 0600), 2);
+        sleep(atoi(argv[3]));
+        past();
+    } else if (is(way, "reaps")) {
+        if (fork() == 0) _exit(0);
+        while (wait(NULL) > 0) continue;
+        past();
+    } else if (is(way, "leaves")) {
+        if (daemon(1, 1) != 0) return 1;
+        past();
+    } else if (is(way, "threads")) {
+        pthread_t thread;
+        pthread_create(&thread, NULL, reads, NULL);
+        printf("flushed");
+        past();
+    } else if (is(way, "quickly")) {
+        past();
+        _exit(atoi(argv[2]));
+    } else if (is(way, "copies")) {
+        char text[100];
+        ssize_t length = read(0, text, sizeof text);
+        write(1, text, length > 0 ? (size_t)length : 0);
+        fprintf(stderr, "on error\\n");
+        past();
+    } else if (is(way, "becomes")) {
+        past();
+        execvp(argv[2], argv + 2);
+    } else if (is(way, "waits")) {
+        past();
+        write(1, "x", 1);
+        pause();
+    }
+    return 0; }
+"""
+
+
+def make_lives(folder: str) -> str:
+    write_text(f"{folder}/l.c", LIVES)
+    call([CC, "-g", "-w", "-pthread", "l.c", "-o", "l"], cwd=folder, check=True)
+    return f"{folder}/l"
+
+
+def start_alone(suite: Suite, *argv: str, **given: Any) -> Started:
+    return Started(argv, env=suite.environment(ASANCOL_RUN=RUN, ASANCOL_REPORT=REPORT), **given)
+
+
+def check_place(suite: Suite, folder: str) -> None:
+    """The program is the process that was started: its number, parent, session and group; it has no child, and no
+    descriptor that its parent has not given to it."""
+    program = make_lives(folder)
+    started = start_alone(suite, program, "place", stdout=subprocess.PIPE, stdin=subprocess.DEVNULL)
+    out = started.communicate()[0].decode()
+    expect(out.split(), [str(it) for it in (started.pid, os.getpid(), os.getsid(0), os.getpgrp(), 1, 3)], "its place")
+    argv = ["sh", "-c", f"{program} place & echo $!; wait"]
+    for ran in (run_alone(suite, *argv), suite.run("--", *argv, ASANCOL_REPORT=REPORT)):
+        expect_ran(ran, 0)
+        expect(len(set(re.findall(r"(?m)^\d+", ran.out))), 1, "how many numbers")
+
+
+def check_streams(suite: Suite, folder: str) -> None:
+    """Whoever waits for it has all of the verdict by then."""
+    program = make_lives(folder)
+    with open(f"{folder}/err", "wb") as err:
+        started = start_alone(suite, program, "copies", stdin=subprocess.PIPE, stdout=subprocess.PIPE, stderr=err)
+        assert started.stdin and started.stdout
+        started.stdin.write(b"some text")
+        started.stdin.close()
+        expect(started.wait(), 99, "its status")
+        with open(f"{folder}/err", encoding="utf-8") as file:
+            text = file.read()
+        expect(started.stdout.read(), b"some text", "standard output")
+        started.stdout.close()
+    expect_in(text, "on error\n")
+    expect_in(text, "1 process, ")
+    expect_ran(run_alone(suite, "sh", "-c", f"{program} threads < /dev/zero | cat; {program} threads"), 99, PAST)
+    expect_in(run_alone(suite, "sh", "-c", f"sleep 5 | {program} threads | cat").out, "flushed")
+
+
+def check_closed(suite: Suite, folder: str) -> None:
+    program = make_lives(folder)
+    for first in ("3", "0"):
+        expect_ran(run_alone(suite, program, "closes", first), 99, PAST, "1 process, ")
+
+
+def check_ways_out(suite: Suite, folder: str) -> None:
+    """Each way out of the process has the status of the run; a program that replaces it is the same process."""
+    program = make_lives(folder)
+    expect_ran(run_alone(suite, program, "quickly", "3"), 99, PAST)
+    expect_ran(run_alone(suite, program, "becomes", program, "place"), 99, PAST, "2 processes, ")
+    expect_ran(run_alone(suite, program, "becomes", "env", "-i", program, "place"), 99, PAST)
+    expect_ran(run_alone(suite, program, "becomes", "/bin/false"), 1)
+    expect_ran(run_alone(suite, program, "quickly", "3", ASAN_OPTIONS="exitcode=7"), 7, "AddressSanitizer: heap-buffer")
+    expect_ran(run_alone(suite, program, "quickly", "3", ASANCOL_HALT="1"), 99, "heap-buffer-overflow")
+
+
+def check_afterwards(suite: Suite, folder: str) -> None:
+    """A process that starts once the run of its ancestor is over has its own; so has a run inside a run."""
+    program = make_lives(folder)
+    write_text(f"{folder}/first", f"sh {folder}/later $$ > /dev/null 2>&1 &")
+    write_text(f"{folder}/later", "while kill -0 $1; do sleep 0.1; done; sleep 0.5\n"
+                                  f"{program} quickly 3 2> {folder}/log; echo $? >> {folder}/log\n")
+    run_alone(suite, program, "becomes", "sh", f"{folder}/first")
+    def has_status() -> bool:
+        with open(f"{folder}/log", encoding="utf-8") as file:
+            return file.read().endswith("\n99\n")
+    wait_until(lambda: os.path.exists(f"{folder}/log") and has_status(), "the later run")
+    expect_ran(run_alone(suite, program, "becomes", RUN, "--", program, "quickly", "0"), 99, PAST)
+
+
 def check_ended(suite: Suite, folder: str) -> None:
-    """Whoever ends it ends what it runs."""
-    program = make(folder)
-    for number in (signal.SIGTERM, signal.SIGKILL):
-        started = Started([program, "waits"], env=suite.environment(ASANCOL_RUN=RUN), stdout=subprocess.PIPE)
+    """A signal comes to the program, whose status says so, and nobody has its output open afterwards."""
+    program = make_lives(folder)
+    for number, way, status, out in (
+        (signal.SIGTERM, "handles", -signal.SIGTERM, b""), (signal.SIGKILL, "handles", -signal.SIGKILL, b""),
+        (signal.SIGUSR1, "handles", 0, b"got it\n"), (signal.SIGTERM, "waits", 99, b""),
+        (signal.SIGKILL, "waits", -signal.SIGKILL, b""),
+    ):
+        started = start_alone(suite, program, way, stdout=subprocess.PIPE, stderr=subprocess.PIPE)
         expect(started.stdout.read(1) if started.stdout else b"", b"x", "it has begun")
+        started.send_signal(signal.SIGSTOP)
+        expect(os.WIFSTOPPED(os.waitpid(started.pid, os.WUNTRACED)[1]), True, "it stops")
+        started.send_signal(signal.SIGCONT)
         started.send_signal(number)
-        output, _ = started.communicate()
-        expect((output, started.returncode), (b"", -number), f"signal {number}, and nobody has its output open")
+        output, errors = started.communicate()
+        expect((output, started.returncode), (out, status), f"signal {number}, {way}")
+        expect(PAST in errors.decode(), way == "waits", f"a report at signal {number}")
+
+
+def check_daemon(suite: Suite, folder: str) -> None:
+    """A program whose child lives on does not wait for that, nor does who reads what it prints. What the child does
+    goes to the child's own standard error."""
+    program = make_lives(folder)
+    began = time.monotonic()
+    expect_ran(run_alone(suite, program, "daemon", f"{folder}/log", "6"), 0, absent=["asancol"])
+    expect(time.monotonic() - began < 5, True, "it does not wait")
+    def has_report() -> bool:
+        with open(f"{folder}/log", encoding="utf-8") as file:
+            return "2 processes, " in file.read()
+    wait_until(has_report, "the verdict of the daemon")
+
+
+def check_habits(suite: Suite, folder: str) -> None:
+    """A process to which orphans come, as the first one of a container; a child that its parent leaves at once; a
+    debugger; and few descriptors, with which the program runs unchecked."""
+    program = make_lives(folder)
+    as_reaper = f"import ctypes, os; ctypes.CDLL(None).prctl(36, 1); os.execv({program!r}, [{program!r}, 'reaps'])"
+    expect_ran(run_alone(suite, "python3", "-c", as_reaper), 99, PAST)
+    for _ in range(5):
+        left = run_alone(suite, program, "leaves")
+        expect_in(left.err, PAST)
+        expect_not_in(left.err, "never connected")
+    expect_ran(run_alone(suite, "bash", "-c", f"ulimit -n 12; exec {program} quickly 0"), 0, "so it runs unchecked",
+               absent=[PAST])
+    debugger = ["gdb", "-q", "-batch", "-ex", "run", "-ex", "quit", "--args"]
+    if shutil.which("gdb") is not None and "exited normally" in run_alone(suite, *debugger, "true").out:
+        expect_in(run_alone(suite, *debugger, program, "quickly", "0").out, "exited with code 0143")
 
 
 def check_terminal(suite: Suite, folder: str) -> None:
@@ -102,6 +286,8 @@ def check_terminal(suite: Suite, folder: str) -> None:
 def tests(suite: Suite) -> None:
     for name, run in (
         ("statuses", check_statuses), ("without asancol-run", check_without), ("static", check_static),
-        ("linked", check_linked), ("ended", check_ended), ("on a terminal", check_terminal),
+        ("linked", check_linked), ("place", check_place), ("streams", check_streams), ("closed", check_closed),
+        ("ways out", check_ways_out), ("afterwards", check_afterwards), ("ended", check_ended),
+        ("daemon", check_daemon), ("habits", check_habits), ("on a terminal", check_terminal),
     ):
         suite.test(f"own run: {name}", run)

@@ -1,9 +1,11 @@
 """Who may connect to a run: its user, root, and what the command has started, whoever that is by now."""
 
+import itertools
 import os
 import re
 import shutil
 import signal
+import socket
 import subprocess
 import time
 from typing import List
@@ -150,7 +152,7 @@ def check_many_strangers(suite: Suite, folder: str) -> None:
 def check_gone(suite: Suite, folder: str) -> None:
     """Of a process that is gone nobody knows who has started it: it may have been the command. So not all was seen."""
     run = Run(suite, folder)
-    why = f"INCOMPLETE: it is of user {OTHER}, and had ended before it was seen who has started it"
+    why = f"INCOMPLETE: it belongs to user {OTHER}, and ended before its parent was known"
     os.kill(run.program.pid, signal.SIGSTOP)
     gone = [*as_user(OTHER), "python3", "-c", GONE, run.abstract, "1"]
     expect(suite.run_argv(gone).out, "gone\n", "the process that has connected")
@@ -179,9 +181,34 @@ os.execve(sys.argv[2], sys.argv[2:], {})
 """
 
 
+def mark_of(name: str) -> int:
+    """What the timer slack of a run's processes has of the name of its socket (common/inherited.h)."""
+    number = 2166136261
+    for byte in name.encode():
+        number = (number ^ byte) * 16777619 % (1 << 32)
+    return (number >> 8) % 2048
+
+
+def socket_with_the_mark_of(hub: str) -> socket.socket:
+    """Makes a socket that nobody listens at, whose abstract name has the mark of a run's, and comes after it in the
+    system's list."""
+    names = (f"{hub}/of-another-{number}" for number in itertools.count())
+    for name in (it for it in names if mark_of(it) == mark_of(hub)):
+        made = socket.socket(socket.AF_UNIX)
+        made.bind(f"\0{name}")
+        with open("/proc/net/unix", encoding="utf-8", errors="replace") as listed:
+            marked = [it.split("@")[-1].strip() for it in listed if it.strip().endswith((f"@{hub}", f"@{name}"))]
+        if marked[0] == hub:
+            break
+        made.close()
+    return made
+
+
 def check_asked(suite: Suite, folder: str) -> None:
-    """A process that the command has not started gets no settings, whatever mark it has: it runs as by itself."""
+    """A process that the command has not started gets no settings, whatever mark it has: it runs as by itself. So it
+    does where another socket's name has this mark."""
     run = Run(suite, folder)
+    other = socket_with_the_mark_of(run.abstract[1:])
     number = run.program.pid
     with open(f"/proc/{number}/task/{number}/children", encoding="utf-8") as children:
         child = children.read().split()[0]
@@ -190,6 +217,7 @@ def check_asked(suite: Suite, folder: str) -> None:
     for words in (argv, [*as_user(OTHER), *argv]):
         ran = suite.run_argv(words)
         expect((ran.status, ran.err), (0, ""), f"{words}")
+    other.close()
     run.end(0, "1 process, ", "all complete", absent=["refused"])
 
 

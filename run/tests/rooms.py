@@ -69,7 +69,7 @@ def check_replaced(suite: Suite, folder: str) -> None:
 
 def check_open_folder(suite: Suite, folder: str) -> None:
     """A folder in which anybody may move others' files is passed over, with a line."""
-    line = f"asancol-run: TMPDIR: {folder}: anybody may move what is in it"
+    line = f"asancol-run: TMPDIR: {folder}: anybody may move its contents"
     for mode, is_named in ((0o777, True), (0o1777, False), (0o2775, False)):
         os.chmod(folder, mode)
         ran = suite.run("--", "sh", "-c", f"{suite.program} sound; echo $ASANCOL_HUB", TMPDIR=folder)
@@ -180,7 +180,7 @@ def check_nested_without_folder(suite: Suite, folder: str) -> None:
     """An inner run that can leave no result is a process that was not seen."""
     line = "rm -r ${ASANCOL_HUB%/*}; RUN -q -- PROGRAM sound"
     ran = suite.run(*nested(suite, line))
-    expect_ran(ran, 98, "does not get its result", ": INCOMPLETE: it was not recorded, or not by this run")
+    expect_ran(ran, 98, "does not get this result", ": INCOMPLETE: it was not recorded, or not by this run")
 
 
 def check_nested_result(suite: Suite, folder: str) -> None:
@@ -239,7 +239,7 @@ def check_full_queue(suite: Suite, folder: str) -> None:
         full_queue(stack, f"{outer}/full")
         for argv, said in (
             (["python3", "-c", MARKED, str(marked_slack(f"{outer}/hub")), *line], "all complete"),
-            (["env", f"ASANCOL_HUB={outer}/full-0", *line], "the run round this one does not get its result"),
+            (["env", f"ASANCOL_HUB={outer}/full-0", *line], "the outer run does not get this result"),
         ):
             begun = time.monotonic()
             environment = suite.environment(LD_PRELOAD=f"{folder}/hurries.so")

@@ -41,7 +41,7 @@ def check_used_again(suite: Suite, folder: str) -> None:
     path = f"{folder}/result"
     for words in ("1 2r 3re", "3re 2r 1", "1 2r 3e"):
         ran = run_peer(suite, words, "--json", path)
-        expect_ran(ran, 0, "./segmented: handed out freed memory again after 2.0 MB of blocks, so ", absent=["so did"])
+        expect_ran(ran, 0, "./segmented: reused freed memory after 2.0 MB of blocks, so ", absent=["so did"])
         with open(path, encoding="utf-8") as file:
             process = json.loads(file.read().splitlines()[1])
         expect((process["segments"], process["used_again"]), (3, 2000000), words)
@@ -290,7 +290,7 @@ CASES: Dict[str, Tuple[List[Trace], List[str], str]] = {
     "an older file of that name": ([FIRST._replace(ending=1), Trace("a.segment-002.trace", started=0)], ["a.trace"],
                                    "1 process, 9 events; all complete"),
     "without side files": (WITHOUT_SIDES, ["a.trace"],
-                           "INCOMPLETE: segment 1: its findings and leaks are not known, since nothing stands beside "
+                           "INCOMPLETE: segment 1: its findings and leaks are unknown, since there are no data beside "
                            "its trace: record with ASANCOL_WHERE=1"),
     "without side files, one missing": ([*WITHOUT_SIDES[:1], Trace("a.segment-003.trace", started=0)], ["a.trace"],
                                         "1 process, 18 events; 1 INCOMPLETE"),

@@ -220,12 +220,13 @@ def check_refused(suite: Suite, folder: str) -> None:
     os.mkdir(results)
     write_text(file, "mine\n")
     for argv, status, said in (
-        ((), 2, "there is no SOCKET"),
-        ([socket_path, results], 2, "there is no COMMAND"),
-        (["--mod", "600", socket_path, results, "true"], 2, "there is no option --mod"),
+        ((), 2, "no SOCKET was given"),
+        ([socket_path, results], 2, "no COMMAND was given"),
+        (["--mod", "600", socket_path, results, "true"], 2, "unknown option --mod"),
         (["--group", "--", socket_path, results, "true"], 2, "--group needs a value"),
-        (["--mode=888", socket_path, results, "true"], 2, "--mode is 000 to 777, and not 888"),
-        (["--connections", "0", socket_path, results, "true"], 2, "--connections is 1 to 999999999, and not 0"),
+        (["--mode=888", socket_path, results, "true"], 2, "--mode: '888' is not octal digits (000 to 777)"),
+        (["--connections", "0", socket_path, results, "true"], 2,
+         "--connections: '0' is not a number (1 to 999999999)"),
         (["--group", "nobody's", socket_path, results, "true"], 1, "s: there is no group nobody's"),
         ([socket_path, f"{folder}/none", "true"], 1, f"{folder}/none: No such file or directory"),
         ([socket_path, file, "true"], 1, f"{file}: Not a directory"),
@@ -314,8 +315,9 @@ def check_mode(suite: Suite, folder: str) -> None:
     expect([it.user for it in service.results()], [65534] * 2, "users")
     service = Service(suite, folder)
     another = ["setpriv", "--reuid=65534", "--regid=65534", "--clear-groups", LISTEN]
+    no_group = "its group cannot be root: Operation not permitted"
     for argv, said in (([service.socket], "Permission denied"),
-                        (["--group", "root", "/tmp/asancol-none"], "its group can't be root: Operation not permitted")):
+                        (["--group", "root", "/tmp/asancol-none"], no_group)):
         ran = suite.run_argv([*another, *argv, "/tmp", "true"])
         expect((ran.status, ran.err), (1, f"asancol-listen: {argv[-1]}: {said}\n"), "another user's")
     service.end()

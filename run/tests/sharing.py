@@ -4,7 +4,7 @@ import os
 import re
 from typing import Any, Dict, List, Tuple
 
-from support import RUN, TESTS, Suite, expect, expect_ran, read_packets
+from support import REPORT, RUN, TESTS, Suite, expect, expect_ran, read_packets
 
 GARBAGE = "import os, socket; s = socket.socket(socket.AF_UNIX); s.connect(os.environ['ASANCOL_HUB']); s.send({})"
 # This many end soon, and well.
@@ -72,16 +72,27 @@ def check_mixed(suite: Suite, folder: str) -> None:
     expect(len(said[0]), len(said[1]), "processes and verdicts")
     expect(statuses[0], statuses[1], "status and output")
     expect(2 * len(counts[0]) < len(counts[1]), True, f"checkers: {counts}")
-    expect((max(counts[0]) > 3, max(counts[1])), (True, 0), f"words of a checker: {counts}")
+    expect((max(counts[0]) > 0, max(counts[1])), (True, 0), f"words of a checker: {counts}")
+
+
+def check_same_bytes(suite: Suite, folder: str) -> None:
+    """However many have the same small stream, it is checked once; and each that has another one is checked."""
+    noting = checker(suite, folder, f"echo $# >> {folder}/words")
+    each = f"i=0; while [ $i -lt 400 ]; do {suite.program} sound > /dev/null; i=$((i+1)); done"
+    ran = suite.run("--", "sh", "-c", f"{each}; {suite.program} past 1 > /dev/null; {each}; true", ASANCOL=noting,
+                    ASANCOL_REPORT=REPORT)
+    expect_ran(ran, 99, "1 report at 1 place; 801 processes", "all complete")
+    expect(len(starts(folder)) < 8, True, "a checker for the first, and one for the report")
 
 
 def check_failing(suite: Suite, folder: str, line: str) -> None:
-    """A checker of many that fails costs none of them its verdict."""
+    """A checker of several streams that fails costs none of them its verdict."""
     failing = checker(suite, folder, f'echo $# >> {folder}/words\nif [ "$1" = check ]; then {line}; fi')
-    each = f"i=0; while [ $i -lt {SHORT} ]; do {suite.program} sound > /dev/null; i=$((i+1)); done"
+    pair = f"{suite.program} sound > /dev/null; {suite.program} execs true"
+    each = f"i=0; while [ $i -lt {SHORT} ]; do {pair}; i=$((i+1)); done"
     ran = suite.run("--", "sh", "-c", each, ASANCOL=failing)
-    expect_ran(ran, 0, f"no reports; {SHORT} processes, {2 * SHORT} events; all complete")
-    expect(max(starts(folder)) > 2, True, "whether one had many")
+    expect_ran(ran, 0, f"no reports; {2 * SHORT} processes, {4 * SHORT} events; all complete")
+    expect(len(starts(folder)) > SHORT // 2, True, "whether many had one after it")
 
 
 def check_all_failing(suite: Suite, folder: str) -> None:
@@ -102,7 +113,7 @@ def check_few_descriptors(suite: Suite, folder: str) -> None:
 
 
 def check_full_disk(suite: Suite, folder: str) -> None:
-    """Where no file may have a byte, streams can't be moved aside."""
+    """Where no file may have a byte, no verdict can be written."""
     line = f"i=0; while [ $i -lt 9 ]; do {suite.program} sound > /dev/null; i=$((i+1)); done"
     together = suite.run_argv(["sh", "-c", f"ulimit -f 0; exec {RUN} -- sh -c '{line}'"])
     alone = suite.run_argv(["sh", "-c", f"ulimit -f 0; exec {RUN} -- {suite.program} sound"])
@@ -111,10 +122,11 @@ def check_full_disk(suite: Suite, folder: str) -> None:
 
 def tests(suite: Suite) -> None:
     suite.test("shared checker: each kind of process", check_mixed)
+    suite.test("shared checker: the same bytes", check_same_bytes)
     for name, line in {
         "killed": "kill -9 $$",
         "failing": "exit 3",
-        "half of it": f'{suite.asancol} "$@" | head -n 2; exit 0',
+        "half of it": f'{suite.asancol} "$@" | head -n 1; exit 0',
         "half a line": f'{suite.asancol} "$@" | head -c 60; exit 0',
         "none is opened": "echo p0 end not-opened; exit 3",
         "no memory": "echo p0 end no-memory checked 0 reports 0; exit 3",

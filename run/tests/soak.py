@@ -261,7 +261,7 @@ class Soak:
         errors = program.communicate()[1]
         self.expect(program.pid, "no-close", "past_heap")
         self.count("words", 0 if as_hub else 1)
-        if not as_hub and "at the limit, further events left out" not in errors:
+        if not as_hub and "events beyond the limit are missing" not in errors:
             raise Failure(f"no word of the limit: {errors!r}")
 
     def segments(self, draw: random.Random) -> None:

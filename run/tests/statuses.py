@@ -14,7 +14,7 @@ RUNS: Dict[str, Tuple[str, int, List[str]]] = {
     "without dashes": ("-q PROGRAM sound", 0, []),
     "verbose": ("-v -- PROGRAM sound", 0, [": complete, 2 events, 0 reports"]),
     "verbose, each with its end": ("-v -- sh -c 'PROGRAM aborts; PROGRAM execs PROGRAM sound; true'", 0, [
-        "complete: ended by SIGABRT, ", "complete: went on as another program, ", "programs: complete, "
+        "complete: ended by SIGABRT, ", "complete: continued as another program, ", "programs: complete, "
     ]),
     "own status": ("-q -- sh -c 'PROGRAM sound; exit 7'", 7, ["!asancol"]),
     "report": ("-- PROGRAM past", 99, []),
@@ -48,7 +48,7 @@ RUNS: Dict[str, Tuple[str, int, List[str]]] = {
     "timeout of a second": ("--timeout 1 -- sleep 9", 98, ["ended by --timeout, after 1 second\n"]),
     "a file that is called --": ("--json=-- -- PROGRAM sound", 0, ["the report"]),
     "no checks": ("-- UNCHECKED sound", 98, ["NOTHING WAS RECORDED"]),
-    "no checks beside checks": ("-- sh -c 'PROGRAM sound; UNCHECKED sound'", 98, ["no code of it was compiled"]),
+    "no checks beside checks": ("-- sh -c 'PROGRAM sound; UNCHECKED sound'", 98, ["none of its code was compiled"]),
     "no checks as skipped": ("--nothing-exitcode 77 -- UNCHECKED sound", 77, []),
     "at-least": (
         "--at-least 2 -- sh -c 'PROGRAM sound; true'",
@@ -123,20 +123,22 @@ RUNS: Dict[str, Tuple[str, int, List[str]]] = {
     "leaks are but a line": ("-- env ASANCOL_LEAKS=0 PROGRAM sound", 0, ["all complete"]),
     "use after return is not looked for": ("-- env ASANCOL_USE_AFTER_RETURN=0 PROGRAM sound", 0, ["all complete"]),
     "frames that nobody looked at": ("-- ENDED skipped=8", 0, ["not checked: frames in a block, from another stack\n"]),
+    "addresses of no trace": ("-- ENDED skipped=32", 0, ["not checked: accesses at addresses that no trace has\n"]),
     "returns that nobody looked at": ("-- ENDED skipped=2", 0, [
         "not checked: uses after return (ASANCOL_USE_AFTER_RETURN=0)\n"
     ]),
     "freed memory came again": ("-- ENDED used_again=1234567890", 0, [
         "; all complete\nasancol: process ",
-        "./ended: handed out freed memory again after 1.2 GB of blocks, so later uses after free may be missed\n"
+        "./ended: reused freed memory after 1.2 GB of blocks, so later uses after free may be missed\n"
     ]),
     "freed memory came again in three": (
         "--unchecked=error -- sh -c 'ENDED used_again=6815744; ENDED used_again=0; ENDED used_again=9; "
-        "ENDED used_again=8; exit 7'", 7, ["again after 6.8 MB of blocks, ", "may be missed; and so did 2 more\n"]
+        "ENDED used_again=8; exit 7'", 7,
+        ["freed memory after 6.8 MB of blocks, ", "may be missed; and so did 2 more\n"],
     ),
     "freed memory came again, quiet": ("-q -- ENDED used_again=6815744", 0, ["!asancol"]),
     "freed memory came again, past all addresses": ("-- ENDED used_again=18446744073709551615", 0, [
-        "handed out freed memory again after 140737.5 GB of blocks"
+        "reused freed memory after 140737.5 GB of blocks"
     ]),
     "freed memory did not come again": ("-- ENDED used_again=0", 0, ["all complete\n", "!again"]),
     "environment": (
@@ -146,38 +148,38 @@ RUNS: Dict[str, Tuple[str, int, List[str]]] = {
 
 # A command line that is refused, and the message.
 REFUSED: Dict[str, Tuple[str, str]] = {
-    "unknown": ("--nonsense true", "there is no option --nonsense\n"),
-    "near": ("--exit-code 3 true", "there is no option --exit-code; is --exitcode meant?"),
-    "near, with a value": ("--supressions=f true", "there is no option --supressions; is --suppressions meant?"),
-    "beginning": ("--code f true", "is --codequality meant?"),
-    "halt": ("--halt true", "there is no option --halt; ASANCOL_HALT=1 in the environment ends each process"),
-    "AddressSanitizer's": ("--log_path=x true", "there is no option --log_path; is --log-path meant?"),
-    "AddressSanitizer's, with dashes": ("--detect-leaks=1 true", "is --leaks=yes meant?"),
+    "unknown": ("--nonsense true", "unknown option --nonsense\n"),
+    "near": ("--exit-code 3 true", "unknown option --exit-code; did you mean --exitcode?"),
+    "near, with a value": ("--supressions=f true", "unknown option --supressions; did you mean --suppressions?"),
+    "beginning": ("--code f true", "did you mean --codequality?"),
+    "halt": ("--halt true", "unknown option --halt; ASANCOL_HALT=1 in the environment ends each process"),
+    "AddressSanitizer's": ("--log_path=x true", "unknown option --log_path; did you mean --log-path?"),
+    "AddressSanitizer's, with dashes": ("--detect-leaks=1 true", "did you mean --leaks=yes?"),
     "AddressSanitizer's alone": ("--strip-path-prefix=/a true", "ASAN_OPTIONS=strip_path_prefix=.. in the environment"),
-    "letter": ("-x true", "there is no option -x\n"),
-    "valgrind's": ("--leak-check=full true", "there is no option --leak-check\n"),
-    "no command": ("-q", "there is no command"),
-    "no command after dashes": ("-q --", "there is no command"),
+    "letter": ("-x true", "unknown option -x\n"),
+    "valgrind's": ("--leak-check=full true", "unknown option --leak-check\n"),
+    "no command": ("-q", "no command was given"),
+    "no command after dashes": ("-q --", "no command was given"),
     "no value": ("--wait", "--wait: it needs a value"),
     "dashes as a value": ("--html -- true", "--html: it needs a value"),
     "dashes as a number": ("--wait -- true", "--wait: it needs a value"),
     "dashes as a value, quiet": ("-q --keep -- true", "--keep: it needs a value"),
     "a value too many": ("--quiet=1 true", "--quiet: it takes no value"),
-    "status": ("--exitcode 256 true", "--exitcode: 256 is not a number from 0 to 255"),
-    "status, below 0": ("--exitcode -1 true", "-1 is not a number from 0 to 255"),
-    "status, empty": ("--exitcode= true", " is not a number from 0 to 255"),
-    "status, text": ("--exitcode 7x true", "7x is not a number from 0 to 255"),
-    "count": ("--at-least 1000000001 true", "is not a number from 0 to 1000000000"),
-    "huge": ("--at-least 99999999999999999999999 true", "is not a number from 0 to 1000000000"),
-    "wait": ("--wait 86401 true", "86401 is not a number of seconds from 0 to 86400"),
-    "wait, text": ("--wait soon true", "soon is not a number of seconds"),
-    "wait, not a number": ("--wait nan true", "nan is not a number of seconds"),
-    "wait, two points": ("--wait 1.2.3 true", "1.2.3 is not a number of seconds"),
-    "timeout": ("--timeout 0 true", "0 is not a number of seconds from 0.001 to 31536000"),
-    "limit": ("--limit 16777217 true", "16777217 is not a number from 1 to 16777216"),
-    "memory": ("--memory 1000 true", "1000 is not a number from 1048576 to 1099511627776"),
-    "quarantine": ("--quarantine 1099511627777 true", "is not a number from 0 to 1099511627776"),
-    "color": ("--color blue true", "blue is not one of auto, always and never"),
+    "status": ("--exitcode 256 true", "--exitcode: '256' is not a number (0 to 255)"),
+    "status, below 0": ("--exitcode -1 true", "'-1' is not a number (0 to 255)"),
+    "status, empty": ("--exitcode= true", "'' is not a number (0 to 255)"),
+    "status, text": ("--exitcode 7x true", "'7x' is not a number (0 to 255)"),
+    "count": ("--at-least 1000000001 true", "is not a number (0 to 1000000000)"),
+    "huge": ("--at-least 99999999999999999999999 true", "is not a number (0 to 1000000000)"),
+    "wait": ("--wait 86401 true", "'86401' is not a number of seconds (0 to 86400)"),
+    "wait, text": ("--wait soon true", "'soon' is not a number of seconds"),
+    "wait, not a number": ("--wait nan true", "'nan' is not a number of seconds"),
+    "wait, two points": ("--wait 1.2.3 true", "'1.2.3' is not a number of seconds"),
+    "timeout": ("--timeout 0 true", "'0' is not a number of seconds (0.001 to 31536000)"),
+    "limit": ("--limit 16777217 true", "'16777217' is not a number (1 to 16777216)"),
+    "memory": ("--memory 1000 true", "'1000' is not a number (1048576 to 1099511627776)"),
+    "quarantine": ("--quarantine 1099511627777 true", "is not a number (0 to 1099511627776)"),
+    "color": ("--color blue true", "'blue' is not one of auto, always and never"),
     "no suppressions": ("--suppressions /nonexistent true", "/nonexistent: No such file or directory"),
     "a folder as baseline": ("--baseline /usr true", "/usr: Is a directory"),
     "no root": ("--source-root /etc/passwd true", "/etc/passwd: Not a directory"),
@@ -241,7 +243,7 @@ def check_missing_checker(suite: Suite, folder: str, checker: str) -> None:
     """It is found before the command starts."""
     mark = f"{folder}/ran"
     ran = suite.run("--", "touch", mark, ASANCOL=checker)
-    expect_ran(ran, 125, checker, "is not there, or cannot be executed")
+    expect_ran(ran, 125, checker, "is missing or cannot be executed")
     expect(os.path.exists(mark), False, "that the command ran")
 
 
@@ -288,7 +290,7 @@ def check_beside(suite: Suite, folder: str) -> None:
     expect_ran(ran, 99, "in store_past ", "in load_freed ", "3 processes, ", "; all complete\n")
     line = line.replace("-S ", "")
     ran = suite.run("--", "sh", "-c", line, ASANCOL_REPORT=REPORT)
-    why = "its findings and leaks are not known, since nothing stands beside its trace: Too many open files\n"
+    why = "its findings and leaks are unknown, since there are no data beside its trace: Too many open files\n"
     expect_ran(ran, 99, "its place was not recorded", f"INCOMPLETE: {why}", "3 processes, ", "1 INCOMPLETE\n")
 
 

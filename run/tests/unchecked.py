@@ -67,7 +67,7 @@ def check_summary(suite: Suite, folder: str, compiler: str) -> None:
         (["--unchecked=no", "./libraries"], 0, " events; all complete\n"),
         (["sh", "-c", "./libraries; exec ./libraries"], 0, f" events; all complete; {TWO}\n"),
         (["--unchecked=error", "sh", "-c", "./bad; ./some"], 99, "; not checked: u.o\n"),
-        (["./static"], 99, "; not checked: calls of the C library (-static)\n"),
+        (["./static"], 99, "; not checked: calls to the C library (-static)\n"),
     ):
         absent = [] if "all complete" in text else ["all complete"]
         for reporter in (NO_SETTINGS, {"ASANCOL_REPORT": REPORT}):
@@ -127,7 +127,7 @@ def check_libraries(suite: Suite, folder: str, compiler: str) -> None:
     cxx = {"gcc": "g++", "clang": "clang++"}[compiler]
     for argv in (["plus"], ["plus-static", "-static"]):
         call([CXX, "plus.cpp", "-o", *argv], cwd=folder, check=True, env={**os.environ, "ASANCOL_CXX": cxx})
-    calls, static = "calls of libraries (ASANCOL_LIBRARIES=0)", "; not checked: calls of the C library (-static)\n"
+    calls, static = "calls by libraries (ASANCOL_LIBRARIES=0)", "; not checked: calls to the C library (-static)\n"
     for program, status, on, off in (
         ("./bad", 99, "; all complete\n", "; all complete\n"),
         ("./plus", 0, "; all complete\n", f" events; not checked: {calls}\n"),

@@ -52,7 +52,7 @@ WAYS: List[Tuple[str, str]] = [
     ("segfault", "dies: ended by SIGSEGV, by a store at address 0x8\n    #0"),
     ("abort", "dies: ended by SIGABRT\n    #0"),
     ("abort", "dies: INCOMPLETE: ended by SIGABRT before main"),
-    ("kill", "dies: INCOMPLETE: ended abruptly, as by SIGKILL, or an _exit or exec in a library, before main"),
+    ("kill", "dies: INCOMPLETE: ended abruptly, such as by SIGKILL, or by an _exit or exec in a library, before main"),
     ("past", "heap-buffer-overflow: store of 1 byte"),
     ("exit", "asancol: no reports; 1 process, "),
 ]
@@ -327,6 +327,10 @@ def check_recorded_parent(suite: Suite, folder: str) -> None:
     ran = suite.run("--", "./parent", "spawnp", "resolves", cwd=folder, PATH=f"/none:{folder}:{os.environ['PATH']}")
     expect_ran(ran, 98, f"resolves: {NEVER}")
     expect_ran(suite.run("--", "./parent", "fork", "./nowhere", cwd=folder), 0, "all complete")
+    for name in ("=1", "=" + "x" * 50, f"{folder}/{'deep' * 20}"):
+        os.symlink("resolves", os.path.join(folder, name))
+        ran = suite.run("--", "./parent", "spawn", name, cwd=folder)
+        expect_ran(ran, 98, f"{name}: {NEVER}", "; 1 INCOMPLETE")
 
 
 def check_no_descriptors(suite: Suite, folder: str, compiler: str) -> None:

@@ -181,7 +181,7 @@ def check_lowered(suite: Suite, folder: str) -> None:
            f"env ASANCOL_QUARANTINE=5 {suite.program} sound"
     ran = run_real(suite, "--full", "--json", f"{folder}/x", "--", "sh", "-c", line)
     texts = [f"{suite.program}: held back {count} bytes of freed memory (ASANCOL_QUARANTINE)" for count in (7, 5)]
-    texts += [f"{suite.program}: ended at its first fault (ASANCOL_HALT), so what it would have done was not seen"]
+    texts += [f"{suite.program}: ended at its first fault (ASANCOL_HALT), so later errors were not seen"]
     expect_ran(ran, 99, "asancol: process ", *texts)
     notes = [it["text"] for it in read_lines(f"{folder}/x") if it["type"] == "note"]
     expect([sum(text in it for it in notes) for text in texts], [1, 1, 1], "notes")
@@ -490,7 +490,7 @@ def check_kept(suite: Suite, folder: str) -> None:
 
 def check_killed_in_a_file(suite: Suite, folder: str) -> None:
     """A trace in a file whose process was killed reads as such, and not as a damaged one."""
-    why = "INCOMPLETE: ended abruptly, as by SIGKILL, or an _exit or exec in a library, or still running\n"
+    why = "INCOMPLETE: ended abruptly, such as by SIGKILL, or by an _exit or exec in a library, or still running\n"
     for where in ("0", "1"):
         trace = f"{folder}/{where}.trace"
         suite.run_argv([suite.program, "kills_itself", "9"], ASANCOL_TRACE=trace, ASANCOL_WHERE=where)

@@ -100,7 +100,7 @@ static void take(struct segment *segment, const uint8_t *data, size_t size)
     segment_name(segment);
     segment->verdicts = memfd_create("verdicts", MFD_CLOEXEC);
     expect(segment->verdicts >= 0 && write(segment->verdicts, data, size) == (ssize_t)size);
-    verdict_read(segment, NULL);
+    verdict_read(segment, NULL, NULL);
     look_at(segment);
     verdict_again(segment);
     look_at(segment);

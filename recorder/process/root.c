@@ -1,0 +1,78 @@
+/* One question at the socket where processes ask. Its answer comes with no limit of time: the run ends before us if it
+   must. */
+#define _GNU_SOURCE
+#include "process/root.h"
+
+#include <limits.h>
+#include <stdatomic.h>
+#include <string.h>
+
+#include "base/digits.h"
+#include "base/disturbance.h"
+#include "base/say.h"
+#include "base/self.h"
+#include "base/system.h"
+#include "common/hub_name.h"
+#include "environment/asking.h"
+#include "environment/other_threads.h"
+#include "environment/settings.h"
+#include "environment/startup.h"
+#include "heap/heap.h"
+#include "process/world.h"
+#include "process/process.h"
+#include "stream/sending.h"
+
+/* What asancol-run ends with if it has not seen a process to its end. */
+enum { NOT_SEEN = 98 };
+
+static _Atomic bool has_asked;
+
+static bool is_root(void)
+{
+    uint64_t root = recorder_settings()->root;
+    return root != 0 && root == (uint64_t)system_getpid() && recorder_hub() != NULL && recorder_is_own_process();
+}
+
+/* A text of digits, or any other: STATUS_STAYS. */
+static int number_of(const char *text)
+{
+    int number = 0;
+    for (; *text >= '0' && *text <= '9' && number <= UCHAR_MAX; text++)
+        number = number * 10 + *text - '0';
+    return *text == 0 ? number : STATUS_STAYS;
+}
+
+int root_end(int status)
+{
+    char request[64] = ASK_STATUS "\n", answer[16], digits[DIGITS_ROOM];
+    if (!is_root() || atomic_exchange(&has_asked, true))
+        return STATUS_STAYS;
+    stream_hang_up();
+    strcat(request, put_digits(digits + sizeof digits, (uint64_t)status, 1));
+    long length = ask_for(recorder_hub(), request, true, answer, sizeof answer - 1, INT_MAX);
+    if (length > 0) {
+        answer[length] = 0;
+        return number_of(answer);
+    }
+    recorder_say("the end was not checked: ", startup_name(),
+                 length == 0 ? "its run has ended before it, or was ended" : "its run can't be asked for the status");
+    return length == 0 ? NOT_SEEN : STATUS_STAYS;
+}
+
+/* A thread that stands still may hold any lock but that of the allocator: nothing but system calls is made. */
+int root_end_at_exit(int status)
+{
+    struct disturbance before;
+    if (!is_root() || !has_other_threads() || heap_is_entered())
+        return root_end(status);
+    recorder_finish(FINISH_CLOSED); /* else it would go on until they are gone */
+    undisturbed_begin(&before);
+    heap_lock();
+    bool is_stopped = world_stop() == NULL;
+    int ends_with = root_end(status);
+    if (is_stopped)
+        world_go_on();
+    heap_unlock();
+    undisturbed_end(&before);
+    return ends_with;
+}

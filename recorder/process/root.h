@@ -1,0 +1,19 @@
+/* The end of a program that has a run of its own (own_run.h): it waits until the verdict is printed, and ends with the
+   status of the run.
+
+   Called: when nothing is recorded any more, in the thread that ends the process, also in a handler. No lock: it
+   asks over a connection of its own. */
+#ifndef ASANCOL_ROOT_H
+#define ASANCOL_ROOT_H
+
+#include <stdbool.h>
+
+enum { STATUS_STAYS = -1 };
+
+/* Answers the status with which the process is to end in place of its own, which is as of waitpid; or STATUS_STAYS, as
+   at once if it is none of those or has asked before. */
+int root_end(int status);
+/* The same at an exit: other threads stand still meanwhile, and stay so if the process is to end here. */
+int root_end_at_exit(int status);
+
+#endif

@@ -1,0 +1,31 @@
+/* A run for a program that runs already, and is no child of this one (process/own_run.h): the program has the process
+   number that its parent knows. It gets its environment from us, and becomes itself with that. At its end it asks for
+   the status of the run, and waits for it.
+
+   Called: in the one thread of asancol-run; no lock. */
+#ifndef ASANCOL_RUN_SERVING_H
+#define ASANCOL_RUN_SERVING_H
+
+#include <poll.h>
+#include <stdbool.h>
+#include <sys/types.h>
+
+/* Hands its environment to the process that waits at the other end of standard input, with its timer slack. */
+void serving_begin(pid_t number, char *const *environment, unsigned long slack);
+/* Whether this run serves such a program. */
+bool serving_is_on(void);
+/* Becomes readable at its end. -1: it has ended, or nothing tells. */
+struct pollfd serving_poll(void);
+/* Whether it has asked for its status, or is gone: once. The status is as of waitpid, or 0 if nobody knows it. */
+bool serving_has_ended(int *status);
+/* Takes its question, with a connection that is kept. False: another process has sent it. */
+bool serving_take(pid_t number, const char *text, int connection);
+/* Whether it waits for an answer. */
+bool serving_is_asked(void);
+/* Answers, once: a status, or STATUS_OF_COMMAND. */
+void serving_answer(int status);
+/* The program has gone, and others run on: output of ours goes where theirs goes, and holds no pipe open for which
+   somebody may wait. */
+void serving_follow(pid_t number);
+
+#endif
