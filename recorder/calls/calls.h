@@ -1,6 +1,8 @@
 /* The looks at the shadow that the wrappers of library functions make, and what records the bad pieces.
 
-   Called: by the checks of the program's calls, in any thread, also in a handler; no lock of the recorder's is held. */
+   Called: by the checks of the program's calls (rows of calls.def), in any thread, also in a signal handler and in a
+   child of vfork. Lock: none of the recorder's is held or taken here; bad pieces are recorded by hooks.def. Nothing is
+   allocated, and of the C library only the function is called that the program has called, and what `LIBRARY` has. */
 #ifndef ASANCOL_CALLS_H
 #define ASANCOL_CALLS_H
 
@@ -13,6 +15,7 @@
 
 #include "common/format.h"
 #include "base/platform.h"
+#include "libc/hook_page.h"
 #include "shadow/shadow.h"
 
 /* A call of a function: the address after it, and the function's name. */
@@ -81,6 +84,18 @@ static inline void call_checks_string(enum code code, const char *text, struct c
 {
     if (text != NULL)
         call_checks(code, text, strlen(text) + 1, call);
+}
+
+/* With strict_string_checks=1 a call reads all of a string that it searches or compares, wherever it stops. */
+#define HAS_WHOLE_STRINGS UNLIKELY(HOOK_PAGE->switches.has_whole_strings)
+
+/* A string of which the call has read this many of the first bytes. */
+static inline void call_checks_text(const char *text, size_t size, struct call call)
+{
+    if (HAS_WHOLE_STRINGS)
+        call_checks_string(CODE_LOAD, text, call);
+    else
+        call_checks(CODE_LOAD, text, size, call);
 }
 
 static inline void call_checks_wide(enum code code, const wchar_t *text, struct call call)

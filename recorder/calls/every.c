@@ -1,5 +1,5 @@
 /* Asks for all groups of calls, in a program that may have libraries which call any of them: asancol-cc asks for this,
-   and so does what opens a library. */
+   and so does what opens a library. No code is called here, and no lock or thread matters: it is a list of names. */
 #include "base/platform.h"
 #include "base/processor_stubs.h"
 

@@ -1,7 +1,8 @@
 /* The ways out of a process that run none of its exit handlers, and those into another program.
 
    Called: by the program, in any thread, also in a handler and in a child of vfork. So nothing is allocated, and what
-   an exec is given as a list lies on the stack. */
+   an exec is given as a list lies on the stack. Lock: none is held here, but the recorder may keep the allocator's from
+   ask_leave up to note_exec_failed (exec_notice.h). */
 #define _GNU_SOURCE
 #include <errno.h>
 #include <fcntl.h>
@@ -28,15 +29,13 @@ REAL(int, fexecve, (int, char *const *, char *const *));
 GUARD_OWN(_exit);
 CHECK _Noreturn void checked__exit(int status)
 {
-    note_finish(FINISH_CLOSED);
-    real__exit(status);
+    real__exit(ask_finish(status));
 }
 
 GUARD_OWN(_Exit);
 CHECK _Noreturn void checked__Exit(int status)
 {
-    note_finish(FINISH_CLOSED);
-    real__Exit(status);
+    real__Exit(ask_finish(status));
 }
 
 GUARD_OWN(abort);
@@ -76,10 +75,8 @@ CHECK int checked_daemon(int keeps_folder, int keeps_streams)
     if (!HAS_HOOKS)
         return real_daemon(keeps_folder, keeps_streams);
     int result = LIBRARY->fork();
-    if (result > 0) {
-        note_finish(FINISH_CLOSED);
-        system_exit(EXIT_SUCCESS);
-    }
+    if (result > 0)
+        system_exit(ask_finish(EXIT_SUCCESS));
     if (result < 0)
         return -1;
     result = system_setsid();
@@ -131,6 +128,7 @@ static struct leaving leave(const struct target *target)
     return (struct leaving){(left & LEFT_RECORDING) != 0, (left & LEFT_WORD) != 0};
 }
 
+/* The exec has failed: stays in the recording, and answers as the exec. */
 static int stay(struct leaving leaving)
 {
     int error = errno;

@@ -1,5 +1,6 @@
 /* The formats of printf and scanf, as accesses of memory. A walk ends where it does not know what follows: at positions
-   (%1$d), and at conversions that the program has registered. */
+   (%1$d), and at conversions that the program has registered. struct conversion is what a walk is at. Called as calls.h
+   says. */
 #include <limits.h>
 #include <stdarg.h>
 #include <stdio.h>
@@ -33,6 +34,7 @@ static const char *read_digits(const char *at, size_t *number)
     return at;
 }
 
+/* Reads "hh", "l" and the like, and answers where it ends. */
 static const char *read_length(const char *at, struct conversion *it)
 {
     const char *end = skip(at, "hlqLjzZt");

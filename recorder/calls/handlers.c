@@ -1,5 +1,7 @@
 /* The handlers that a program sets. Where it sets the default, or asks for the current one, it must not meet the
-   recorder's own. */
+   recorder's own. No state is here: signals.c has it.
+
+   Called: by the program, in any thread, also in a signal handler, without a lock. */
 #define _GNU_SOURCE
 #include <signal.h>
 

@@ -2,10 +2,11 @@
    and the name. Each goes to what the program calls by the name itself. The build leaves the names here as they are, so
    that the linker wraps them.
 
-   A program that has the function itself may call the other name in it. It comes past its own function then: to the
-   C library's, without a check, or to the allocator.
+   A program that has the function itself may call the other name in it. It comes past its own function then: to the C
+   library's, without a check, or to the allocator.
 
-   One member of the library, that comes in only if it is asked for. */
+   One member of the library, that comes in only if it is asked for. Called as stubs.h says; `next_functions`, with the
+   functions after the program's, is filled by a constructor, in one thread. */
 #include "base/processor_stubs.h"
 #include "libc/library.h"
 #include "shadow/mapping.h"

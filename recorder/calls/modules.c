@@ -1,4 +1,7 @@
-/* A library that is opened later has its place in the map of modules, and may have another malloc than the program. */
+/* A library that is opened later has its place in the map of modules, and may have another malloc than the program.
+
+   Called: by the program's dlopen and dlmopen, in the thread that opens, with no lock of the recorder's: the C library
+   takes the loader's, and constructors of the library run. */
 #define _GNU_SOURCE
 #include <dlfcn.h>
 

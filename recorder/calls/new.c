@@ -1,5 +1,8 @@
 /* Operators of C++. The malloc of a `new` is recorded with the call site of that, and with the size that was asked for.
-   And a block is known by the operator that has allocated it: another family of functions must not free it. */
+   And a block is known by the operator that has allocated it: another family of functions must not free it.
+
+   Called: by the program, in any thread, also in a signal handler as far as a program may allocate there. Lock: none is
+   taken here; the malloc or free that the operator calls takes the allocator's. */
 #define _GNU_SOURCE
 #include <dlfcn.h>
 #include <stdatomic.h>

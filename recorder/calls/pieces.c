@@ -1,5 +1,7 @@
 /* What goes out, and memory in pieces. Whoever gets what goes out may free it before the call returns, so it is looked
-   at before. */
+   at before. No state is here.
+
+   Called: by the checks of the program's calls, in any thread, also in a signal handler. No lock (calls.h). */
 #define _GNU_SOURCE
 #include <limits.h>
 

@@ -1,6 +1,7 @@
 /* The words of the rows of calls.def, and what a row becomes: a stub and a check. Formats have theirs in words.h.
 
-   Called: by the program's calls, in any thread, also in a handler; no lock of the recorder's is held. */
+   Called: by the program's calls, in any thread, also in a signal handler; no lock of the recorder's is held
+   (calls.h). */
 #ifndef ASANCOL_ROWS_H
 #define ASANCOL_ROWS_H
 
@@ -21,6 +22,7 @@
 #define WRITES_ARRAY(start, count, size) call_checks_array(CODE_STORE, start, (size_t)(count), size, call)
 #define READS_STRING(text) call_checks_string(CODE_LOAD, text, call)
 #define WRITES_STRING(text) call_checks_string(CODE_STORE, text, call)
+#define READS_TEXT(text, size) call_checks_text(text, (size_t)(size), call)
 #define GIVES_STRING(text) text = call_gives(text, call)
 #define GIVEN_WITHIN(text, most) LEAST(call_text_there(text), most)
 #define IS_THERE(start) call_is_there(start, sizeof *(start))

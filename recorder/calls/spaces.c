@@ -1,5 +1,7 @@
 /* Memory that becomes something else: a stack of the program's own may have been there, whose redzones must not stay.
-   */
+
+   Called: by the program's mmap and the like, in any thread, also in a signal handler. Lock: none: the shadow
+   and atomic tables are written. */
 #define _GNU_SOURCE
 #include <errno.h>
 #include <stdarg.h>

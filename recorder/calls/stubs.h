@@ -2,7 +2,8 @@
    that name with other parameters. So the stub changes no argument, and asks whether the name is the C library's. Only
    then it goes to the check; else it goes to the function.
 
-   Called: by the program's calls, in any thread, also in a handler, and before the recorder's start. */
+   Called: by the program's calls, in any thread, also in a signal handler, and before the recorder's start. Lock: none:
+   a stub reads the hook page alone. */
 #ifndef ASANCOL_STUBS_H
 #define ASANCOL_STUBS_H
 
@@ -78,7 +79,7 @@ _Static_assert(offsetof(struct hook_page, program) == 56, "as the stubs have it"
 /* Of a lock: its function is called as it is if the shadow of the lock is clean, whosever function that is. That is one
    word, of an object that begins a granule. */
 _Static_assert(STUBS_SHADOW_START == SHADOW_START && GRANULE == 8, "as the stubs have it");
-_Static_assert(MEMORY_END >> STUBS_ADDRESS_BITS == 1, "as the stubs have it");
+_Static_assert((int)STUBS_ADDRESS_BITS == (int)ADDRESS_BITS, "as the stubs have it");
 #define STUB_OF_LOCK(name, bytes)                                                                                      \
     TOP_ASM(BIND("__wrap_" #name));                                                                                    \
     GUARD_AFTER(GO_IF_CLEAN(name, bytes), "__wrap_" #name, "__real_" #name, "checked_" #name, "__real_" #name)         \

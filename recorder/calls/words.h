@@ -2,9 +2,9 @@
    itself (group.c) and uses some of them. A call that is clean leaves no record, and errno is as the function leaves
    it.
 
-   Called: as those of rows.h. */
-#ifndef ASANCOL_WORDS_OF_ROWS_H
-#define ASANCOL_WORDS_OF_ROWS_H
+   Called: as those of rows.h, in any thread, without a lock. A helper has the same rules as a check. */
+#ifndef ASANCOL_WORDS_H
+#define ASANCOL_WORDS_H
 
 #include <aio.h>
 #include <arpa/inet.h>
@@ -68,6 +68,20 @@
 #include "interface/hooks.h"
 
 #define HELPER __attribute__((unused))
+
+/* How many bytes of two ranges are compared: all, or with strict_memcmp=0 up to the first that differ. */
+HELPER static size_t compared(const void *one, const void *other, size_t size)
+{
+    const unsigned char *first = one, *second = other;
+    size_t same = 0;
+    if (LIKELY(!HOOK_PAGE->switches.has_short_memcmp))
+        return size;
+    while (same < size && first[same] == second[same])
+        same++;
+    return least(same + 1, size);
+}
+
+#define COMPARED(one, other, size) compared(one, other, size)
 
 /* A string that is put after another one. */
 
@@ -148,7 +162,7 @@ HELPER static size_t same_front(const char *one, const char *other, size_t most)
    the shadow, as in `compares`. */
 INLINED bool good_comparison(const char *one, const char *other, size_t most)
 {
-    if (most == 0 || !is_in_page(one) || !is_in_page(other))
+    if (most == 0 || !is_in_page(one) || !is_in_page(other) || HAS_WHOLE_STRINGS)
         return false;
     unsigned stops = stops_in_block(one, other);
     if (UNLIKELY(stops == 0))
@@ -171,8 +185,9 @@ static inline void compares(const char *one, const char *other, size_t most, int
         if (first == 0 || fold(first) != fold(second))
             break;
     }
-    READS(one, read);
-    READS(other, read);
+    bool is_whole = HAS_WHOLE_STRINGS;
+    READS(one, is_whole ? length_within(one, most) : read);
+    READS(other, is_whole ? length_within(other, most) : read);
 }
 
 HELPER static void wide_compares(const wchar_t *one, const wchar_t *other, size_t most, int fold(int), struct call call)
@@ -220,7 +235,7 @@ HELPER static void reads_digits(const char *text, struct call call)
     size_t read = number_read(text, text) - 1;
     while (text[read] >= '0' && text[read] <= '9')
         read++;
-    READS(text, read + 1);
+    READS_TEXT(text, read + 1);
 }
 
 HELPER static void reads_real(const char *text, struct call call)
@@ -229,19 +244,21 @@ HELPER static void reads_real(const char *text, struct call call)
     int before = errno;
     LIBRARY->strtod(text, &end);
     errno = before;
-    READS(text, number_read(text, end));
+    READS_TEXT(text, number_read(text, end));
 }
 
 /* `end` is null where the base is none: then nothing was read. */
-#define GIVES_END(text, end, rest, read)                                                                               \
-    if (end != NULL)                                                                                                   \
-        READS(text, read(text, end));                                                                                  \
+#define GIVES_END(end, rest)                                                                                           \
     if (end != NULL && rest != NULL) {                                                                                 \
         WRITES(rest, sizeof *rest);                                                                                    \
         *rest = end;                                                                                                   \
     }
-#define READS_NUMBER(text, end, rest) GIVES_END(text, end, rest, number_read)
-#define READS_WIDE_NUMBER(text, end, rest) GIVES_END(text, end, rest, wide_number_read)
+#define READS_NUMBER(text, end, rest)                                                                                  \
+    READS_TEXT(text, end != NULL ? number_read(text, end) : 0);                                                        \
+    GIVES_END(end, rest)
+#define READS_WIDE_NUMBER(text, end, rest)                                                                             \
+    READS(text, end != NULL ? wide_number_read(text, end) : 0);                                                        \
+    GIVES_END(end, rest)
 #define READS_DIGITS(text) reads_digits(text, call)
 #define READS_REAL(text) reads_real(text, call)
 
@@ -621,7 +638,7 @@ HELPER static size_t sets_of_version(uint32_t version)
 
 HELPER static size_t pages_of(size_t size)
 {
-    return size / PAGE + (size % PAGE != 0);
+    return size / SYSTEM_PAGE + (size % SYSTEM_PAGE != 0);
 }
 
 /* Lines and texts with _FORTIFY_SOURCE: the C library ends the process once it has filled the room, so only then it is
@@ -725,12 +742,17 @@ HELPER static int print_within(char *to, size_t room, int flag, const char *form
         return result;                                                                                                 \
     }
 
+/* With check_printf=0 no format is read, nor what it names. */
+#define READS_FORMAT(walk, format, values, call)                                                                       \
+    if (!HOOK_PAGE->switches.has_no_formats)                                                                           \
+    walk(format, values, call)
+
 #define PRINT_BY(walk, name, listed, parameters, arguments, format, before, after)                                     \
     REAL(int, listed, (UNPACKED parameters, va_list));                                                                 \
     static int with_##name(UNPACKED parameters, va_list values, struct call call)                                      \
     {                                                                                                                  \
         IS_OWN_FRAME;                                                                                                  \
-        walk(format, values, call);                                                                                    \
+        READS_FORMAT(walk, format, values, call);                                                                      \
         before;                                                                                                        \
         int result = real_##listed(UNPACKED arguments, values);                                                        \
         after;                                                                                                         \
@@ -765,7 +787,7 @@ HELPER static int print_within(char *to, size_t room, int flag, const char *form
     CHECK void checked_##listed(UNPACKED parameters, va_list values)                                                   \
     {                                                                                                                  \
         IS_OWN_FRAME;                                                                                                  \
-        format_checks_print(format, values, THIS_CALL(#listed));                                                       \
+        READS_FORMAT(format_checks_print, format, values, THIS_CALL(#listed));                                         \
         real_##listed(UNPACKED arguments, values);                                                                     \
     }                                                                                                                  \
     CHECK void checked_##name(UNPACKED parameters, ...)                                                                \
@@ -773,7 +795,7 @@ HELPER static int print_within(char *to, size_t room, int flag, const char *form
         IS_OWN_FRAME;                                                                                                  \
         va_list values;                                                                                                \
         va_start(values, format);                                                                                      \
-        format_checks_print(format, values, THIS_CALL(#name));                                                         \
+        READS_FORMAT(format_checks_print, format, values, THIS_CALL(#name));                                           \
         real_##listed(UNPACKED arguments, values);                                                                     \
         va_end(values);                                                                                                \
     }
@@ -789,7 +811,7 @@ HELPER static int print_within(char *to, size_t room, int flag, const char *form
         va_list values, again;                                                                                         \
         va_start(values, format);                                                                                      \
         va_copy(again, values);                                                                                        \
-        format_checks_print(format, values, call);                                                                     \
+        READS_FORMAT(format_checks_print, format, values, call);                                                       \
         before;                                                                                                        \
         int length = LIBRARY->vsnprintf(NULL, 0, format, values);                                                      \
         char text[length < 0 ? 1 : length + 1];                                                                        \

@@ -1,5 +1,6 @@
 /* The allocator, as the process calls it. Blocks are in slots of units, or in runs of units (placing.h); which of them
-   are handed out, and what happens to them, shards.h and quarantine.h say. */
+   are handed out, and what happens to them, shards.h and quarantine.h say. Each call tries the thread's own shard
+   (.._quickly), and then all (.._slowly). */
 #define _GNU_SOURCE
 #include "heap/heap.h"
 
@@ -64,6 +65,7 @@ void heap_ignore(const void *pointer)
         heap_leave();
 }
 
+/* A slot or a run for this many bytes, of whichever way the allocator goes; or null: there is no memory. */
 static struct block *take_block(size_t bytes, size_t size)
 {
     struct shard *shard = heap_shard();
@@ -134,7 +136,8 @@ static void populate(const struct block *block, uintptr_t address, size_t size)
     if (heap_is_ordered() || heap.is_unpainted || unit < FIRST_POPULATED || size > MOST_POPULATED
         || arena.units[unit].kind != UNIT_RUN || atomic_load_explicit(&is_refused, memory_order_relaxed))
         return;
-    uintptr_t first = address / PAGE * PAGE, end = (address + size + PAGE - 1) / PAGE * PAGE;
+    uintptr_t first = address / SYSTEM_PAGE * SYSTEM_PAGE;
+    uintptr_t end = (address + size + SYSTEM_PAGE - 1) / SYSTEM_PAGE * SYSTEM_PAGE;
     if (system_madvise((void *)first, end - first, MADV_POPULATE_WRITE) == -EINVAL)
         atomic_store_explicit(&is_refused, true, memory_order_relaxed);
 }
@@ -202,6 +205,7 @@ static void *place_at_last(size_t size, size_t alignment, struct origin from, co
     return place_block(size, alignment, from, use);
 }
 
+/* Gives back what has waited for a period, at some of the calls. */
 static __attribute__((noinline)) void look_at_clock(void)
 {
     enum { CALLS = 16 }; /* a look at the clock takes longer than the rest of a call that does little */
@@ -417,6 +421,13 @@ static __attribute__((noinline)) void give_back_old(void *old, struct origin fro
     give_back(old, from, &use, call);
 }
 
+static _Atomic bool empty_is_kept;
+
+void heap_keep_empty(bool is_on)
+{
+    atomic_store(&empty_is_kept, is_on);
+}
+
 void *heap_move(void *old, size_t size, uintptr_t caller, const char *call)
 {
     caller = origin_caller_or(caller);
@@ -425,6 +436,8 @@ void *heap_move(void *old, size_t size, uintptr_t caller, const char *call)
     if (old == NULL)
         return allocate_new(size, from);
     size_t before = heap_live_size(old);
+    if (size == 0 && atomic_load(&empty_is_kept))
+        size = 1;
     if (size == 0 || before == SIZE_MAX) {
         give_back_old(old, from, call);
         if (size != 0)

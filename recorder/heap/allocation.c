@@ -1,8 +1,12 @@
 /* The rest of malloc.h: what a program asks of its allocator besides blocks. With these and those of replaced.c a
    program that is linked with -static finds all of the C library's interface here, so that the library's own allocator
-   does not come in beside the recorder's.
+   does not come in beside the recorder's. No state: heap_count (heap.h) has the numbers.
 
-   One member of the library, that comes in only if it is asked for. What sets something has no effect. */
+   In the two archives it is a member by itself, which a link takes only if the program calls one of these.
+
+   Called: by the program, in place of the C library's functions, in any thread. No lock is held: heap_count and
+   heap_trim take the allocator's. malloc_stats and malloc_info call the C library's fputs, which may allocate and call
+   the program (fopencookie): so not in a handler, as in the C library. */
 #define _GNU_SOURCE
 #include <errno.h>
 #include <malloc.h>
@@ -13,14 +17,15 @@
 #include "heap/heap.h"
 #include "base/platform.h"
 
-/* 1: the parameter was taken. */
+/* Sets nothing. 1: the parameter was taken. */
 REPLACES int mallopt(int parameter, int value)
 {
     (void)parameter, (void)value;
     return 1;
 }
 
-/* 0: no memory could be given back. None is kept, whatever the program wants to keep. */
+/* 1: memory was given back to the system; 0: none could be. None is kept, however much the program wants to keep
+   (`pad`). */
 REPLACES int malloc_trim(size_t pad)
 {
     (void)pad;
@@ -38,7 +43,8 @@ REPLACES struct mallinfo2 mallinfo2(void)
     };
 }
 
-/* Its numbers are those of mallinfo2, as far as an int goes. */
+/* For both names of mallinfo, since compilers warn of a call of it. Each number is cut to the bits of an int, as the C
+   library does: it may come out negative. */
 static struct mallinfo in_ints(void)
 {
     struct mallinfo2 whole = mallinfo2();
@@ -113,7 +119,7 @@ REPLACES int malloc_info(int options, FILE *out)
     return 0;
 }
 
-/* The library's other names for them. */
+/* The C library's other names for them. */
 
 REPLACES int __libc_mallopt(int parameter, int value)
 {

@@ -30,8 +30,9 @@
 #include "base/system.h"
 #include "libc/library.h"
 
-/* For how many units notes are asked for: they then fill whole pages. */
-enum { NOTE_STEP = REGION_UNITS };
+/* For how many units notes are asked for: they then fill whole pages, since each has a multiple of 8 bytes. */
+enum { NOTE_STEP = MOST_PAGE / 8 };
+_Static_assert(sizeof(struct unit) % 8 == 0 && sizeof(struct block) % 8 == 0, "so it is");
 /* The number of units by which memory grows: it doubles, within these bounds, up to a huge page. It is poison until it
    is handed out (poisoning.h), which takes an eighth of it in the shadow. */
 enum { LEAST_STEP = 4, MOST_STEP = 32 };
@@ -223,6 +224,7 @@ static uint32_t give_back_stale(uint32_t first, uint32_t count, uint8_t period)
     return given;
 }
 
+/* Gives back what waits in all free runs since this period. */
 static void give_back_since(uint8_t period)
 {
     arena_begin_change();
@@ -289,6 +291,7 @@ static uint32_t find_run(uint32_t count)
     return 0;
 }
 
+/* Units from the top on; 0: there is no memory. */
 static uint32_t take_new(uint32_t count, bool is_slab)
 {
     if (count > FIRST_BIG - arena.top)
@@ -319,12 +322,21 @@ bool arena_drop(uint32_t first, uint32_t count)
     return system_madvise(unit_start(first), (size_t)count * UNIT, MADV_DONTNEED) == 0;
 }
 
+/* Makes notes zeros. Those in a part of a page can't be given back. If memory is short some may not be there. */
+static void wipe(void *notes, size_t bytes)
+{
+    if (((uintptr_t)notes | bytes) % SYSTEM_PAGE != 0)
+        memset(notes, 0, bytes);
+    else
+        system_madvise(notes, bytes, MADV_DONTNEED);
+}
+
 void arena_forget(uint32_t unit)
 {
     struct block *notes = other_notes(unit);
-    system_madvise(notes, SLOTS * sizeof *notes, MADV_DONTNEED);
+    wipe(notes, SLOTS * sizeof *notes);
     if (arena.call_sites != NULL)
-        system_madvise(&arena.call_sites[notes - arena.blocks], SLOTS * sizeof *arena.call_sites, MADV_DONTNEED);
+        wipe(&arena.call_sites[notes - arena.blocks], SLOTS * sizeof *arena.call_sites);
 }
 
 _Static_assert(REGION_UNITS * sizeof(struct unit) % PAGE == 0, "the notes on the units of a region fill whole pages");
@@ -349,11 +361,11 @@ void arena_forget_region(uint32_t region)
     struct block *others = other_notes(first);
     if (first < FIRST_BIG)
         renew(others, COUNT * SLOTS * sizeof *others, true);
-    system_madvise(block_at(first, 0), COUNT * sizeof(struct block), MADV_DONTNEED);
-    system_madvise(&arena.units[first], COUNT * sizeof(struct unit), MADV_DONTNEED);
+    wipe(block_at(first, 0), COUNT * sizeof(struct block));
+    wipe(&arena.units[first], COUNT * sizeof(struct unit));
     if (arena.call_sites == NULL)
         return;
-    system_madvise(&arena.call_sites[first], COUNT * sizeof *arena.call_sites, MADV_DONTNEED);
+    wipe(&arena.call_sites[first], COUNT * sizeof *arena.call_sites);
     if (first < FIRST_BIG) {
         struct call_sites *sites = &arena.call_sites[others - arena.blocks];
         renew(sites, COUNT * SLOTS * sizeof *sites, true);
@@ -361,6 +373,7 @@ void arena_forget_region(uint32_t region)
     }
 }
 
+/* A free run, or else new units, which are a run from now on. */
 static uint32_t take_run(uint32_t count, bool is_slab)
 {
     uint32_t first = find_run(count);
@@ -388,6 +401,7 @@ uint32_t arena_take_run(uint32_t count, bool is_slab)
     return first;
 }
 
+/* These units wait from now on, or are given back at once if they are many. */
 static void leave_run(uint32_t first, uint32_t count)
 {
     bool is_much = count >= AT_ONCE;

@@ -1,8 +1,11 @@
 /* Where the allocator's memory comes from: one range of addresses, which is cut into units of 64 KiB. The notes on
    units and blocks lie apart from them, so that a program that writes out of bounds does not meet them; and a pointer
-   is looked up by arithmetic alone. What has no memory yet faults. The allocator's lock is held.
+   is looked up by arithmetic alone. What has no memory yet faults.
 
-   Called: by the allocator, with the lock named at each; arena_find_nearest and arena_find_around at any time. */
+   Called: by the other files of heap/, in the thread that is in the allocator. Lock: central, or all (blocks.h); none
+   for arena_give_memory, which needs no notes, and for arena_clear, of a block that the thread has. The last three
+   below also by leaks/, interface/ and the stream (`above`, stream/state.h), in any thread, also in a handler, without
+   a lock: they read notes by NOTE_NOW. */
 #ifndef ASANCOL_ARENA_H
 #define ASANCOL_ARENA_H
 

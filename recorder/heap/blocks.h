@@ -7,7 +7,11 @@
 
    **Who is in here** (entering.c) has its own shard alone, or all. All is: the gate's lock, and no thread in a shard.
    Who is in a shard never waits for the gate. Under the lock `central` is what all shards take from and give to; who
-   has all may change that too, and takes it all the same. The order: the gate, central, the stream's. */
+   has all may change that too, and takes it all the same. The order: the gate, central, the stream's.
+
+   Called: by the files of heap/, in the thread that is in its shard, for the blocks of that, or has all; and by leaks/
+   with all (heap_lock). Without a lock: heap_allocate, heap_give_back and heap_move, by replaced.c, in any thread, also
+   in a handler. `arena` and `heap` are written in heap/ alone. */
 #ifndef ASANCOL_BLOCKS_H
 #define ASANCOL_BLOCKS_H
 
@@ -202,12 +206,14 @@ static inline struct block *block_from(const void *pointer)
     return block != NULL && block->state != BLOCK_FREE && block_address(block, start) == address ? block : NULL;
 }
 
-/* Every slot and every run that is in use, or was. */
+/* Every slot and every run that is in use, or was. With all. */
 void heap_for_each(void (*visit)(const struct block *block, void *with), void *with);
+
 /* What the process calls is made of these, without the lock. Each is recorded with the call site in its caller. */
 
 /* Null, and ENOMEM: there is no memory. `zeroed`: all bytes are zeros. */
 void *heap_allocate(size_t size, size_t alignment, bool zeroed, uintptr_t caller);
+/* Of null nothing. */
 void heap_give_back(void *pointer, uintptr_t caller);
 /* A malloc of the new, and then a free of the old, by this function. */
 void *heap_move(void *old, size_t size, uintptr_t caller, const char *call);

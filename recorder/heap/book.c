@@ -3,7 +3,7 @@
    the shadow says, which is what the checker would have if all had been recorded.
 
    **A byte of the heap's** (a redzone, or freed) comes from a block. That is stated by a malloc, and by a free if it is
-   held. If no block has the granule any more, a malloc of no bytes is stated, whose redzones have it. All other bytes
+   held. If no block has a redzone any more, a malloc of no bytes is stated, whose redzones have it. All other bytes
    are stated by poison and unpoison of the granule. Of the two granules one at most has a byte of the heap's that is
    looked at: so one block is enough.
 
@@ -14,7 +14,10 @@
    A stated block must not meet one of the checker's. If another entry is in the way, the stream goes on in its next
    segment, and the book is empty. So it does if more spans would be held than the checker may hold. Hence the checker
    never releases a block, and knows of each entry what stands here. It holds more than the allocator's bound says
-   (held_by_checker); a freed block that is larger than that is stated in pieces, each a block of its own. */
+   (held_by_checker); a freed block that is larger than that is stated in pieces, each a block of its own.
+
+   **Read, ask, write**: what stands in the shadow, the notes and the book is read (look_at); by that alone is decided
+   what has to be stated (deciding.c); and it is written, into the stream and the book (carry_out). */
 #include "heap/book.h"
 
 #include <string.h>
@@ -22,6 +25,7 @@
 #include "base/platform.h"
 #include "heap/blocks.h"
 #include "heap/paint.h"
+#include "heap/deciding.h"
 #include "heap/retiring.h"
 #include "shadow/shadow.h"
 #include "stream/record.h"
@@ -29,15 +33,6 @@
 
 enum { ENTRIES = 1 << 16, PIECE = 1 << 24 };
 _Static_assert(PIECE + 2 * REDZONE <= QUARANTINE_BOUND, "a piece can be held");
-
-struct entry {
-    uintptr_t start;
-    uint32_t size;
-    bool is_held;     /* and not live, in the checker */
-    bool is_stale;    /* the process may have another block there since, or none */
-    uint32_t turn;    /* of the unit in which it is */
-    bool is_poisoned; /* poison or an unpoison was stated in its span since */
-};
 
 static AS_TABLE struct {
     uint32_t count;
@@ -93,28 +88,14 @@ static struct entry *entry_of_granule(uintptr_t granule)
     return entry_in(granule, granule + GRANULE);
 }
 
-/* A block of the process that is live or held, by the notes. */
-struct found {
-    uintptr_t start;
-    uint32_t size;
-    bool is_held;
-    bool is_unsure; /* it may be in the middle of a change */
-};
-
-static bool is_of(const struct entry *entry, const struct found *block)
-{
-    return entry->start == block->start && entry->size == block->size;
-}
-
-/* The entry of a block, or another one that is in its way, or null. */
-static struct entry *entry_for(const struct found *block)
-{
-    return entry_in(span_start(block->start), span_end(block->start, block->size));
-}
-
 static uint64_t most_held(void)
 {
     return held_by_checker(atomic_load_explicit(&heap_bound, memory_order_relaxed));
+}
+
+static struct room room_now(void)
+{
+    return (struct room){.held_bytes = book.held_bytes, .most_held = most_held(), .is_full = book.count == ENTRIES};
 }
 
 /* Whether the checker would hold a block of this size once it is freed. */
@@ -126,11 +107,11 @@ static bool can_be_held(uint32_t size)
 /* The block, or the piece of it that has this address. What it has round its bytes is in no piece. */
 static struct found found_of(const struct block *block, uintptr_t start, uintptr_t address)
 {
-    struct found found = {start, block->size, block->state == BLOCK_HELD, false};
+    struct found found = {start, block->size, block->state == BLOCK_HELD};
     if (!found.is_held || can_be_held(block->size) || address - start >= block->size)
         return found;
     uint32_t into = (uint32_t)(address - start) / PIECE * PIECE, rest = block->size - into;
-    return (struct found){start + into, rest < PIECE ? rest : PIECE, true, false};
+    return (struct found){start + into, rest < PIECE ? rest : PIECE, true};
 }
 
 /* How often the unit there was opened, which is to hand out slots of it again. */
@@ -141,47 +122,13 @@ static uint32_t turn_of(uintptr_t address)
     return arena_is_found() && distance < (size_t)UNITS * UNIT && is_used(unit) ? NOTE_NOW(arena.units[unit].turns) : 0;
 }
 
-static bool is_stale(const struct entry *entry)
+/* The entry of a block, or another one that is in its way, or null. It is stale if the unit was opened again. */
+static struct entry *entry_for(const struct found *block)
 {
-    return entry->is_stale || entry->turn != turn_of(entry->start);
-}
-
-/* States a malloc whose span meets that of no entry. Null: it is not stated. */
-static struct entry *state_malloc(uintptr_t start, uint32_t size)
-{
-    if (book.count == ENTRIES || !record_here(CODE_MALLOC, start, size))
-        return NULL;
-    struct entry *entry = &book.entries[first_after(span_start(start))];
-    memmove(entry + 1, entry, (size_t)(&book.entries[book.count] - entry) * sizeof *entry);
-    *entry = (struct entry){.start = start, .size = size, .turn = turn_of(start)};
-    book.count++;
+    struct entry *entry = entry_in(span_start(block->start), span_end(block->start, block->size));
+    if (entry != NULL && entry->turn != turn_of(entry->start))
+        entry->is_stale = true;
     return entry;
-}
-
-static bool state_free(struct entry *entry)
-{
-    uint64_t held = book.held_bytes + span_bytes(entry->size);
-    if (held > most_held() || !record_here(CODE_FREE, entry->start, 0))
-        return false;
-    entry->is_held = true;
-    book.held_bytes = held;
-    return true;
-}
-
-/* False: it is not stated, as if something is in the way. */
-static bool state_block(const struct found *block)
-{
-    struct entry *entry = entry_for(block);
-    if (entry == NULL)
-        entry = state_malloc(block->start, block->size);
-    if (entry == NULL || !is_of(entry, block) || (is_stale(entry) && entry->is_poisoned))
-        return false;
-    bool is_stated = block->is_held ? entry->is_held || state_free(entry) : !entry->is_held;
-    if (is_stated) {
-        entry->is_stale = block->is_unsure;
-        entry->turn = turn_of(entry->start);
-    }
-    return is_stated;
 }
 
 /* For blocks freed in this many bytes from a multiple of them on: a block, whose redzones are there too. If the address
@@ -191,8 +138,8 @@ static struct found forgotten_at(uintptr_t address, size_t bytes)
     uintptr_t start = address / bytes * bytes + REDZONE;
     uint32_t size = (uint32_t)bytes - 2 * REDZONE;
     if (address - start < size)
-        return (struct found){start, size, true, false};
-    return (struct found){address / ALIGNMENT * ALIGNMENT, ALIGNMENT, true, false};
+        return (struct found){start, size, true};
+    return (struct found){address / ALIGNMENT * ALIGNMENT, ALIGNMENT, true};
 }
 
 /* The block whose span has an address, or a piece of it. False: there is none, or the checker would not hold it. */
@@ -230,20 +177,52 @@ static uintptr_t place_in_released(uintptr_t granule)
     return found;
 }
 
-/* Memory that was a block's. */
-static bool state_released(uintptr_t granule)
+/* The byte of a granule. The shadow of retired memory says only that it is bad, which is all there is to say of a block
+   that was not recorded. */
+static unsigned char shade_of(uintptr_t granule)
 {
-    uintptr_t start = place_in_released(granule);
-    struct entry *entry = start != 0 ? state_malloc(start, 0) : NULL;
-    if (entry != NULL)
-        entry->is_stale = true;
-    return entry != NULL;
+    struct found block;
+    unsigned char shade = *shadow_of(granule);
+    if (shade != SHADE_USER || !retiring_has(granule) || arena_has_freed_unrecorded(granule))
+        return shade;
+    return find(granule, &block) ? byte_of(block.start, block.size, block.is_held, granule) : SHADE_HEAP;
 }
 
-/* Whether the checker has this byte already, as a block has left it there. */
-static bool is_known(const struct entry *entry, uintptr_t granule, unsigned char shade)
+/* Of the block there only if that decides. */
+static struct spot look_at(uintptr_t granule)
 {
-    return !entry->is_poisoned && byte_of(entry->start, entry->size, entry->is_held, granule) == shade;
+    struct spot spot = {.granule = granule, .shade = shade_of(granule), .entry = entry_of_granule(granule)};
+    if (!decision_needs_block(&spot))
+        return spot;
+    spot.has_block = find(granule, &spot.block);
+    if (spot.has_block)
+        spot.in_the_way = entry_for(&spot.block);
+    else if (spot.shade == SHADE_HEAP && spot.entry == NULL)
+        spot.cover = place_in_released(granule);
+    return spot;
+}
+
+/* States a malloc whose span meets that of no entry. Null: it is not stated. */
+static struct entry *state_malloc(uintptr_t start, uint32_t size)
+{
+    if (!record_here(CODE_MALLOC, start, size))
+        return NULL;
+    struct entry *entry = &book.entries[first_after(span_start(start))];
+    memmove(entry + 1, entry, (size_t)(&book.entries[book.count] - entry) * sizeof *entry);
+    *entry = (struct entry){.start = start, .size = size, .turn = turn_of(start)};
+    book.count++;
+    return entry;
+}
+
+static bool state_free(struct entry *entry)
+{
+    if (!record_here(CODE_FREE, entry->start, 0))
+        return false;
+    entry->is_held = true;
+    entry->is_stale = false;
+    entry->turn = turn_of(entry->start);
+    book.held_bytes += span_bytes(entry->size);
+    return true;
 }
 
 /* A byte that is not the heap's, from any other. */
@@ -256,30 +235,49 @@ static bool state_byte(struct entry *entry, uintptr_t granule, unsigned has)
     return has == GRANULE || record_poison_here(KIND_USER, granule + has, GRANULE - has);
 }
 
-/* The byte of a granule. The shadow of retired memory says only that it is bad, which is all there is to say of a block
-   that was not recorded. */
-static unsigned char shade_of(uintptr_t granule)
+/* Writes the decision on a granule or a block. `entry` is its entry, or null. False: not all of it is stated. */
+static bool carry_out(const struct decision *decision, uintptr_t granule, struct entry *entry)
 {
-    struct found block;
-    unsigned char shade = *shadow_of(granule);
-    if (shade != SHADE_USER || !retiring_has(granule) || arena_has_freed_unrecorded(granule))
-        return shade;
-    return find(granule, &block) ? byte_of(block.start, block.size, block.is_held, granule) : SHADE_HEAP;
+    switch (decision->kind) {
+    case DECIDE_NOTHING:
+        return true;
+    case DECIDE_BYTES:
+        return state_byte(entry, granule, decision->has);
+    case DECIDE_MALLOC:
+        return state_malloc(decision->start, decision->size) != NULL;
+    case DECIDE_MALLOC_AND_FREE:
+        entry = state_malloc(decision->start, decision->size);
+        return entry != NULL && state_free(entry);
+    case DECIDE_FREE:
+        return state_free(entry);
+    case DECIDE_COVER:
+        entry = state_malloc(decision->start, 0);
+        if (entry != NULL)
+            entry->is_stale = true;
+        return entry != NULL;
+    default:
+        return false;
+    }
 }
 
+/* Brings a granule in the checker to its shadow byte. False: that can't be stated in this segment. */
 static bool state_granule(uintptr_t granule, enum holding holding)
 {
-    struct found block;
-    unsigned char shade = shade_of(granule);
-    struct entry *entry = entry_of_granule(granule);
-    if (entry != NULL && is_known(entry, granule, shade))
-        return true;
-    if (shade != SHADE_HEAP && shade != SHADE_FREED)
-        return state_byte(entry, granule, addressable_of(shade));
-    if (!find(granule, &block))
-        return entry == NULL && state_released(granule);
-    block.is_unsure = holding == HEAP_INTERRUPTED;
-    return byte_of(block.start, block.size, block.is_held, granule) == shade && state_block(&block);
+    struct room room = room_now();
+    struct spot spot = look_at(granule);
+    struct decision decision = decide_granule(&spot, &room);
+    bool is_stated = carry_out(&decision, granule, spot.has_block ? spot.in_the_way : spot.entry);
+    struct entry *entry = is_stated && spot.has_block && holding == HEAP_INTERRUPTED ? entry_for(&spot.block) : NULL;
+    if (entry != NULL)
+        entry->is_stale = true; /* the block may be in the middle of a change */
+    return is_stated;
+}
+
+/* What an access finds in its own granule, and in the next one if that says the class, which is stated first. */
+static bool state_granules(uintptr_t granule, enum holding holding)
+{
+    bool has_next = addressable_of(*shadow_of(granule)) != 0;
+    return (!has_next || state_granule(granule + GRANULE, holding)) && state_granule(granule, holding);
 }
 
 /* From the first byte that is bad in a granule on: up to its end, and the next one too if that says the class. */
@@ -333,21 +331,26 @@ enum stating book_state_access(uint64_t address, unsigned width, enum holding ho
     if (is_in_frame)
         return state_frame(granule) ? STATING_FRAME : go_on(segment, false);
     bool is_spoiled = atomic_exchange(&book.is_spoiled, false) && book.count != 0;
-    bool has_next = addressable_of(*shadow_of(granule)) != 0;
-    if (!is_spoiled && (!has_next || state_granule(granule + GRANULE, holding)) && state_granule(granule, holding))
+    if (!is_spoiled && state_granules(granule, holding))
         return STATING_DONE;
     bool is_again = go_on(segment, book.count != 0) == STATING_AGAIN;
     return is_again ? STATING_AGAIN : state_as_poison(granule, KIND_USER);
 }
 
-/* Whether the checker has the right block at an address. */
-static bool state_freed(const struct block *block, const struct entry *entry)
+/* The entry that begins at an address, or null. */
+static struct entry *entry_at(uintptr_t address)
 {
-    if (block == NULL)
-        return entry == NULL;
-    uintptr_t start = (uintptr_t)block_start(block);
-    struct found found = found_of(block, start, start);
-    return state_block(&found);
+    struct entry *entry = entry_in(address, address + 1);
+    return entry != NULL && entry->start == address ? entry : NULL; /* a block around it is in nobody's way */
+}
+
+/* States what a bad free of this address finds: a held block, or a piece of it, or null. */
+static bool state_freed(const struct found *block, uintptr_t address)
+{
+    struct room room = room_now();
+    struct entry *in_the_way = block != NULL ? entry_for(block) : NULL;
+    struct decision decision = decide_free(block, in_the_way, entry_at(address), &room);
+    return carry_out(&decision, address / GRANULE * GRANULE, in_the_way);
 }
 
 /* So that a free is bad in a segment that has to do: a free of the block that the checker takes for live comes first.
@@ -365,14 +368,12 @@ enum stating book_state_free(uint64_t address)
     unsigned segment = atomic_load(&STREAM->segment);
     if (block != NULL && is_in_use(block))
         return STATING_NOT_NEEDED;
-    struct entry *entry = entry_in(address, address + 1);
-    if (entry != NULL && entry->start != address)
-        entry = NULL; /* a block around it is in nobody's way */
+    struct found found = block != NULL ? found_of(block, address, address) : (struct found){0};
     bool is_spoiled = atomic_exchange(&book.is_spoiled, false) && book.count != 0;
-    if (!is_spoiled && state_freed(block, entry))
+    if (!is_spoiled && state_freed(block != NULL ? &found : NULL, address))
         return STATING_DONE;
     if (go_on(segment, book.count != 0) == STATING_AGAIN)
         return STATING_AGAIN;
-    state_any_free(entry);
+    state_any_free(entry_at(address));
     return STATING_DONE;
 }

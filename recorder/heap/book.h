@@ -1,4 +1,8 @@
-/* Lean recording: which blocks the checker of this segment knows, and how others are stated. The heap is locked. */
+/* Lean recording: which blocks the checker of this segment knows, and how others are stated.
+
+   Called: book_forget by snapshot.c; the others by stream/watched.c (`above`, stream/state.h), in the thread of the bad
+   access or free, also in a handler. Lock: the allocator's, which watched.c takes. Where `holding` is HEAP_AT_LOCK, a
+   handler could not get it: then the book is not looked at. They record, but allocate nothing. */
 #ifndef ASANCOL_BOOK_H
 #define ASANCOL_BOOK_H
 

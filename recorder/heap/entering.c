@@ -74,7 +74,7 @@ static bool wait_for(const struct shard *shard, int most)
 {
     enum { LOOKS = 100, TURNS = 200 };
     static const struct timespec a_while = {.tv_nsec = 50000};
-    for (int looks = 0; atomic_load_explicit(&shard->is_busy, memory_order_acquire); looks += looks < most) {
+    for (int looks = 0; atomic_load(&shard->is_busy); looks += looks < most) {
         if (looks < LOOKS)
             processor_pause();
         else if (looks < TURNS)
@@ -99,6 +99,7 @@ static bool close_all(int most)
     return true;
 }
 
+/* Takes the gate, closes the shards and waits until no other thread is in one. A thread that is alone needs neither. */
 static void take_all(void)
 {
     bool alone = library_is_alone();
@@ -135,6 +136,7 @@ static void find_own(void)
         lock_give(&heap.gate);
 }
 
+/* Into the own shard, or all if there is none or it is closed for good. Who has closed it is waited for by the gate. */
 static void enter_somewhere(void)
 {
     if (this_visit.own == NULL && !is_over && !heap_is_ordered())
@@ -198,6 +200,7 @@ static void put_in_front(struct deferred *_Atomic *list, struct deferred *it)
         ;
 }
 
+/* Frees what handlers have left, the oldest first. With all. */
 static void free_deferred(void)
 {
     struct deferred *taken = atomic_exchange(&this_visit.waiting, NULL), *in_order = NULL;
@@ -221,6 +224,7 @@ static bool has_deferred(void)
     return UNLIKELY(atomic_load_explicit(&this_visit.waiting, memory_order_relaxed) != NULL);
 }
 
+/* Gives back whichever it has, the shard or all. */
 static void go_out(void)
 {
     this_visit.is_inside = AT_THE_LOCK;

@@ -1,6 +1,10 @@
 /* Going into the allocator and out. A thread is in its shard alone, or has all (blocks.h). A signal handler whose
    thread is in here already is not let in: it gets spare memory (spare.h), and what it frees is freed by the thread
-   that it has interrupted. */
+   that it has interrupted.
+
+   Called: by allocating.c and numbers.c, in any thread, also in a handler. The locks are taken here: heap_enter takes
+   the own shard, or all; heap_enter_all takes all, which is the gate's lock. Who was let in calls heap_leave, and only
+   who was. this_visit is the thread's own, and entering.c alone writes it. */
 #ifndef ASANCOL_ENTERING_H
 #define ASANCOL_ENTERING_H
 
@@ -65,11 +69,11 @@ static inline void visit_end(void)
     this_visit.frame = UINTPTR_MAX;
 }
 
-/* What the next two functions do if there is more to do. */
+/* What heap_enter and heap_leave do if there is more to do. */
 bool enter_slowly(uintptr_t frame); /* it has no shard, or is in here already */
 bool enter_again(void);             /* all shards are closed */
-void leave_slowly(void);
-void free_what_waits(void);
+void leave_slowly(void);            /* it has all */
+void free_what_waits(void);         /* handlers have freed something meanwhile */
 
 /* Into the shard of this thread, or to all of it if that is in order. False: it is a handler that is not let in. */
 static inline bool heap_enter(void)

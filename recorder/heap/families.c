@@ -1,4 +1,5 @@
-/* No table: the family is in the block's note, and a caller is judged by the instruction before its return address. */
+/* No table but three switches: the family is in the block's note, and a caller is judged by the instruction before its
+   return address. That is read by memory_read: its module may be closed meanwhile. */
 #define _GNU_SOURCE
 #include "heap/families.h"
 
@@ -22,7 +23,8 @@ void heap_check_families(bool families, bool sizes)
     atomic_store_explicit(&are_sizes_checked, sizes, memory_order_relaxed);
 }
 
-/* A plain program, which has this preloaded, may have the library of C++ inside. */
+/* Whether a module may have operators of its own: a plain program, which has this preloaded, may have the library of
+   C++ inside. */
 static bool has_own_operators(const void *module)
 {
 #ifdef IS_PRELOAD
@@ -53,6 +55,7 @@ enum { ADDRESS_CALL = 0xe8, TABLE = 0xff, TABLE_CALL = 0x15, TABLE_JUMP = 0x25, 
 /* Of an instruction that ends with a distance to what it uses, from its own end. */
 enum { OPERATION_BYTES = 2, DISTANCE_BYTES = 4, INSTRUCTION_BYTES = OPERATION_BYTES + DISTANCE_BYTES };
 
+/* The address that such an instruction uses; `end` is its own end. */
 static uintptr_t used_by(const unsigned char *instruction, uintptr_t end)
 {
     int32_t distance;
@@ -60,6 +63,7 @@ static uintptr_t used_by(const unsigned char *instruction, uintptr_t end)
     return end + (uintptr_t)(intptr_t)distance;
 }
 
+/* 0: it can't be read. The address comes from bytes that may be no call at all. */
 static uintptr_t word_at(uintptr_t address)
 {
     uintptr_t word;
@@ -101,6 +105,7 @@ static bool is_release(const struct release *release)
            || is_call_of(EXPORTED(realloc), release->caller);
 }
 
+/* Whether a block's or a free's family is certain: that of malloc is not if the caller may be an operator. */
 static bool is_known(enum family family, uintptr_t caller)
 {
     return family != FAMILY_ANY && (family != FAMILY_MALLOC || (caller != 0 && !may_be_operator(caller)));

@@ -1,8 +1,10 @@
 /* Families of functions that allocate: a block has to be freed by its own. And sizes and alignments that a delete
    says.
 
-   Called: by free and its like, in the thread that calls them and in the allocator, for a block that is its own by
-   then. */
+   Called: families_differ and families_look_at by freeing.c, in the thread that frees, in the allocator: in its shard
+   or with all (blocks.h), for a block that was live a moment ago. families_note_refused by allocating.c without a lock,
+   in the thread that allocates, and requests_are_noted by that and by replaced.c. All also in a handler. families.c has
+   heap_check_families and heap_check_requests (heap.h) too, by which process/process.c turns these on. */
 #ifndef ASANCOL_FAMILIES_H
 #define ASANCOL_FAMILIES_H
 
@@ -16,17 +18,19 @@
 /* How a block is freed. */
 struct release {
     uintptr_t address, caller, frame; /* of the block; and of the free, as call_site_from has them */
-    const char *call;                 /* `free` or `realloc`; an operator has its name by its family */
+    const char *call;                 /* `free`, `realloc` or `reallocarray`; an operator has its name by its family */
     enum family family;
     size_t alignment, size_and_one; /* as heap_called_by has them */
 };
 
-/* Notes a known mistake in it. The allocator's lock is held. */
+/* Whether the block is known to be freed by another family than its own, or with another size or alignment, and that is
+   to be noted. Nothing is noted here. */
 bool families_differ(const struct block *block, const struct release *release);
+/* Notes such a mistake as a finding (stream/findings.h), if there is one. With all. */
 void families_look_at(const struct block *block, const struct release *release);
 
 /* Notes that a block is refused, since it is larger than any can be, or since there is no memory. Nothing of an
-   operator that nobody has announced: what that does is not known. Without the lock. */
+   operator that nobody has announced: what that does is not known. */
 void families_note_refused(size_t size, uintptr_t caller, enum family family, bool is_too_big);
 /* Whether such requests are noted (heap_check_requests). */
 bool requests_are_noted(void);

@@ -1,6 +1,8 @@
 /* Blocks that are given back.
 
-   Called: by free and its like, in a shard or with all, as each says. */
+   Called: the first two by allocating.c, and free_with_all by entering.c for what a handler has freed, in the thread
+   that is in its shard or has all (blocks.h), as each says, also in a handler that was let in. note_left_out by
+   allocating.c too. note_all_left_out by entering.c, in any thread, without a lock: it adds to atomic counts. */
 #ifndef ASANCOL_FREEING_H
 #define ASANCOL_FREEING_H
 
@@ -17,10 +19,11 @@ enum freeing {
     FREEING_NEEDS_ALL /* a shard is not enough to say what it is: nothing was done */
 };
 
-/* By whoever is in this shard, and by who has all. A call is `free` or `realloc`. */
+/* By whoever is in this shard, and by who has all. A call is `free`, `realloc` or `reallocarray`. */
 enum freeing free_in_shard(struct shard *shard, uintptr_t address, struct origin from, const struct use *use);
 enum freeing free_with_all(uintptr_t address, struct origin from, const struct use *use, const char *call);
 
+/* Two steps of the next function. */
 void wake_stream(void);
 void count_left_out(struct shard *shard);
 

@@ -1,7 +1,9 @@
 /* The allocator.
 
-   Called: by malloc and its like, by the stream (`above`), and by the process around forks and ends: in any thread,
-   also in a handler. */
+   Called: by the program's malloc and its like (replaced.c), by stream/ (`above`, stream/state.h), by process/ around
+   forks and ends, and by interface/ and leaks/: in any thread, also in a handler. Where a function needs the
+   allocator's lock, it takes that, unless it says that "the heap is locked": then heap_lock took it, which is the
+   gate's lock, with no thread in a shard (blocks.h). */
 #ifndef ASANCOL_HEAP_H
 #define ASANCOL_HEAP_H
 
@@ -61,6 +63,8 @@ bool heap_is_called_by_operator(void);
 void heap_check_families(bool families, bool sizes);
 /* Whether a request is noted that can't be met. */
 void heap_check_requests(bool is_on);
+/* Whether realloc to no bytes gives a block, in place of null. */
+void heap_keep_empty(bool is_on);
 
 /* The call sites of mallocs and frees are noted from now on. */
 void heap_keep_call_sites(void);

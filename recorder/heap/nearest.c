@@ -1,6 +1,8 @@
 /* The block that is nearest to a bad access, and the end of the one around an address: by the notes on blocks and
-   units, which another thread may be changing, or which this thread was changing when a signal came. Each is read once,
-   and nothing of it is believed. */
+   units, which another thread may be changing, or which this thread was changing when a signal came. Each is read once
+   into a `struct slot`, and nothing of it is believed.
+
+   Called: the functions of arena.h and heap.h that are here, in any thread, also in a handler; no lock. */
 #include "heap/arena.h"
 #include "heap/blocks.h"
 #include "heap/heap.h"
@@ -67,6 +69,7 @@ static struct call_sites call_sites_now(size_t number)
     return (struct call_sites){NOTE_NOW(all[number].allocated), NOTE_NOW(all[number].freed)};
 }
 
+/* The slot of a slab that has an address, or the part of its unit that has none. */
 static void find_in_slab(uint32_t number, const struct unit *unit, uintptr_t address, struct slot *slot)
 {
     uintptr_t start = (uintptr_t)unit_start(number) + unit->lead, end = (uintptr_t)unit_start(number) + UNIT;
@@ -99,6 +102,7 @@ static void find_free(uint32_t number, const struct unit *unit, struct slot *slo
     }
 }
 
+/* The slot or run that has an address, or the unused part. False: it is not the allocator's memory. */
 static bool find_slot(uintptr_t address, struct slot *slot)
 {
     if (!arena_is_found())

@@ -1,3 +1,4 @@
+/* `said` of each thread, from the caller's word until the next malloc or free takes it back. */
 #include "heap/origin.h"
 
 #include "heap/heap.h"

@@ -4,7 +4,8 @@
    bytes of a free. What it makes good is painted after: the bytes of a malloc. So whoever finds a byte addressable
    here came before the record that takes it away, or after the one that gives it.
 
-   Called: in a shard for its own blocks, or with all. */
+   Called: by allocating.c, freeing.c and quarantine.c, in the thread that is in its shard, for that shard's blocks, or
+   has all (blocks.h); no further lock. byte_of by book.c, and block_shadow anywhere: they only compute. */
 #ifndef ASANCOL_PAINT_H
 #define ASANCOL_PAINT_H
 

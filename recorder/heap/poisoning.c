@@ -1,3 +1,4 @@
+/* heap.poisoned counts the units that have become poison: the next ones up to arena.committed are not yet. */
 #include "heap/poisoning.h"
 
 #include "shadow/shadow.h"

@@ -1,3 +1,4 @@
+/* A table of six, which only grows: an entry is whole before it is counted. */
 #include "heap/program_hooks.h"
 
 #include "heap/heap.h"

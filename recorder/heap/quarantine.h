@@ -1,6 +1,8 @@
 /* In order: a freed block waits in the quarantine as long as the checker holds it, which counts the same bytes in the
-   same order. Then its slot or run is reused: slots that were freed last come first. All of it
-   is with all. */
+   same order. Then its slot or run is reused: slots that were freed last come first.
+
+   Called: by allocating.c, freeing.c and snapshot.c, in the thread that has all (blocks.h), which is the lock; also in
+   a handler that was let in. */
 #ifndef ASANCOL_QUARANTINE_H
 #define ASANCOL_QUARANTINE_H
 
@@ -11,8 +13,9 @@ struct block *quarantine_take_slot(unsigned class, uint32_t slot_size);
 struct block *quarantine_take_run(size_t count);
 /* A freed block, which is bad already. */
 void quarantine_hold(struct block *block);
-/* One that the checker does not know is reused. */
+/* A block's slot or run may be reused. It is not in the quarantine: the checker does not know it. */
 void quarantine_release(struct block *block);
+/* The same for the block that is in the quarantine for longest. */
 void quarantine_release_oldest(void);
 /* Enough entries for this many bytes of spans. */
 void quarantine_release_down_to(uint64_t bound);

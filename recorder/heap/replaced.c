@@ -1,4 +1,8 @@
-/* What the process calls. They are weak: a program with its own allocator keeps it. */
+/* What the process calls. They are weak: a program with its own allocator keeps it. `rows` says what dlsym answers.
+
+   Called: by the program and all of its libraries, the C library too, in any thread, also in a handler, from before the
+   first constructor on. No lock is held: heap_allocate, heap_give_back and heap_move (blocks.h) take them. errno is the
+   program's, and set as the C library would. */
 #define _GNU_SOURCE
 #include <errno.h>
 #include <malloc.h>
@@ -152,7 +156,7 @@ REPLACES int posix_memalign(void **result, size_t alignment, size_t size) __attr
 
 static void *own_valloc(size_t size)
 {
-    return heap_allocate(size, PAGE, false, CALLER());
+    return heap_allocate(size, SYSTEM_PAGE, false, CALLER());
 }
 
 REPLACES void *valloc(size_t size) __attribute__((alias("own_valloc")));
@@ -160,14 +164,14 @@ REPLACES void *valloc(size_t size) __attribute__((alias("own_valloc")));
 /* Of no bytes it is a page, as with AddressSanitizer. */
 static void *allocate_pages(size_t size, uintptr_t caller)
 {
-    size_t pages = size / PAGE + (size % PAGE != 0 || size == 0);
+    size_t pages = size / SYSTEM_PAGE + (size % SYSTEM_PAGE != 0 || size == 0);
     size_t bytes;
-    if (__builtin_mul_overflow(pages, PAGE, &bytes)) {
+    if (__builtin_mul_overflow(pages, SYSTEM_PAGE, &bytes)) {
         note(FINDING_OVERFLOW, "pvalloc", caller, (struct wrong_call){.size = size});
         errno = ENOMEM;
         return NULL;
     }
-    return heap_allocate(bytes, PAGE, false, caller);
+    return heap_allocate(bytes, SYSTEM_PAGE, false, caller);
 }
 
 static void *own_pvalloc(size_t size)
@@ -210,7 +214,7 @@ BELOW(calloc, (size_t count, size_t size), allocate_array(count, size, CALLER())
 BELOW(realloc, (void *old, size_t size), heap_move(old, size, CALLER(), "realloc"))
 BELOW(reallocarray, (void *old, size_t count, size_t size), move_array(old, count, size, CALLER()))
 BELOW(memalign, (size_t alignment, size_t size), heap_allocate(size, power_of_two(alignment), false, CALLER()))
-BELOW(valloc, (size_t size), heap_allocate(size, PAGE, false, CALLER()))
+BELOW(valloc, (size_t size), heap_allocate(size, SYSTEM_PAGE, false, CALLER()))
 BELOW(pvalloc, (size_t size), allocate_pages(size, CALLER()))
 
 REPLACES void __libc_free(void *pointer) __attribute__((alias("heap_own_free")));

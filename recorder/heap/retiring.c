@@ -95,6 +95,7 @@ static void forget_oldest(void)
     count_forgotten(number, units_of(unit));
 }
 
+/* The notes on a unit stay, until they are the oldest and too many. */
 static void keep(uint32_t unit)
 {
     /* A handler may jump out of the middle: then the bytes are too many. */
@@ -129,15 +130,21 @@ static void note_reuse(void)
     side_note_reuse(((uint64_t)arena.top + (arena.big_top - FIRST_BIG)) * UNIT);
 }
 
+/* Each unit has another turn then than ever before, even if its notes were forgotten: by that the book knows stale
+   entries. A slab that is opened counts on from there. */
 void retiring_undo(uint32_t number)
 {
+    enum { OPENED_BETWEEN = 1 << 12 };
+    static uint32_t turns;
     struct unit *unit = &arena.units[number];
     bool has_notes = is_kept(unit);
     uint32_t units = units_of(unit);
+    turns += OPENED_BETWEEN;
     heap.kept_bytes -= has_notes ? note_bytes(unit) : 0;
     heap.retired_units -= units;
     for (uint32_t at = number; at < number + units; at++) {
         uint32_t region = at / REGION_UNITS;
+        SET_NOTE(arena.units[at].turns, turns);
         SET_NOTE(heap.retired[region], heap.retired[region] - 1);
         SET_NOTE(heap.forgotten[region], heap.forgotten[region] - !has_notes);
     }
@@ -179,6 +186,7 @@ static struct listed *list_of(const struct unit *unit)
     return &heap.listed[class_of(unit->slot_size, &slot_size)];
 }
 
+/* Puts a unit behind those of its class that may be opened again. */
 static void list(uint32_t number)
 {
     struct unit *unit = &arena.units[number];
@@ -244,6 +252,7 @@ static void sort(uint32_t *numbers, uint32_t count)
         }
 }
 
+/* Gives retired units back, each row of them by one call of the system. */
 static void give_back(uint32_t *units, uint32_t count)
 {
     sort(units, count);
@@ -342,6 +351,7 @@ static unsigned living_pages(uint32_t number)
     return living;
 }
 
+/* Gives these pages of a unit back, a bit for each, each row by one call of the system. */
 static void give_back_pages(uint32_t number, unsigned pages)
 {
     for (unsigned from = 0, count; from < PAGES; from += count) {

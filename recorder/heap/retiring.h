@@ -1,13 +1,16 @@
 /* What happens to units whose blocks are freed for good (shards.h).
 
-   Called: in a shard or with central, as each says; retiring_has and retiring_forgot at any time. */
+   Called: by shards.c and reusing.c, in the thread that is in its shard or has all (blocks.h). Lock: central where a
+   function says so; the others take it here. retiring_has and retiring_forgot by book.c and nearest.c, in any thread,
+   also in a handler, without a lock. */
 #ifndef ASANCOL_RETIRING_H
 #define ASANCOL_RETIRING_H
 
 #include "heap/blocks.h"
 
-/* Nothing of a slab is left, or of a run. It is given back with some others, or at once if the shard is null. */
+/* Nothing of a slab is left. It is given back with some others, or at once if the shard is null. */
 void retire(struct shard *shard, uint32_t unit);
+/* The same for a run, always at once. */
 void retire_run(uint32_t unit);
 /* Units that stay unused. Under central. */
 void retiring_leave(uint32_t unit, uint32_t count);

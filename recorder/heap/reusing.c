@@ -50,6 +50,7 @@ static uint32_t find_row(uint32_t from, uint32_t end, uint32_t count)
     return 0;
 }
 
+/* From where it was found last to the end, and else from the beginning. */
 static uint32_t find_from(uint32_t *next, uint32_t least, uint32_t end, uint32_t count)
 {
     uint32_t found = *next < end ? find_row(*next, end, count) : 0;
@@ -87,6 +88,7 @@ static void leave_rest(uint32_t first, uint32_t end)
     retiring_leave(first, end - first);
 }
 
+/* These units are retired no more. All that they were a part of is noted anew. */
 static void take(uint32_t first, uint32_t count)
 {
     uint32_t end = first + count;

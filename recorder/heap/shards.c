@@ -1,3 +1,5 @@
+/* A list of all shards, which only grows, and one of those that no thread has. A shard has for each class the unit from
+   which it takes slots (struct slab). */
 #define _GNU_SOURCE
 #include "heap/shards.h"
 
@@ -99,6 +101,7 @@ static bool take_units(uint32_t count, struct unit_span *span)
     return true;
 }
 
+/* The shard takes its slots of this class from this unit. */
 static void open_unit(struct shard *shard, unsigned class, uint32_t unit, bool is_again)
 {
     struct unit *at = &arena.units[unit];
@@ -147,6 +150,7 @@ static bool open_new(struct shard *shard, unsigned class, uint32_t slot_size)
     return true;
 }
 
+/* Opens a listed unit, whose free slots are reused. False: there is none. */
 static bool open_again(struct shard *shard, unsigned class)
 {
     central_take();

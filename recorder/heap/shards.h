@@ -13,7 +13,9 @@
    of the quarantine, free slots of the oldest such units are reused, and the stream says so
    (side_note_reuse).
 
-   Called: in the shard of the thread, or with all; shard_take and shard_give with the gate. */
+   Called: by allocating.c, freeing.c, entering.c and quarantine.c, in the thread that is in this shard, or with all
+   (blocks.h). Lock: none further; central is taken here where units are. shard_take and shard_give with the gate;
+   shards_are_left in a forked child. */
 #ifndef ASANCOL_SHARDS_H
 #define ASANCOL_SHARDS_H
 

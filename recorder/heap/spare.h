@@ -1,5 +1,8 @@
 /* For a signal handler whose thread was interrupted in the allocator: memory that is no block, at addresses that are
-   never given again. */
+   never given again.
+
+   Called: by allocating.c and entering.c, in a handler; is_spare, spare_size and spare_drop in any thread, for a
+   pointer that it has. No lock: only `heap.spare_used` is shared, an atomic that grows. */
 #ifndef ASANCOL_SPARE_H
 #define ASANCOL_SPARE_H
 
@@ -18,7 +21,9 @@ static inline bool is_spare(const void *pointer)
 
 /* Zeros; null: there is no memory. */
 void *spare_take(size_t size, size_t alignment);
+/* As it was asked for. */
 size_t spare_size(const void *pointer);
+/* Gives its memory back to the system, and not its addresses. */
 void spare_drop(void *pointer);
 
 #endif

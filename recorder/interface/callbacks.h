@@ -1,11 +1,13 @@
 /* How the functions are defined that compiled checks call.
 
-   They are compiled three times. In libasancol_shared.a they are a member that comes in only if the object's own
-   checks ask for it, and so they are, as checks.o, in the archives of programs. So that this member came in says that
+   They are compiled three times. In libasancol_shared.a they are a member that comes in only if the object's own checks
+   ask for it, and so they are, as checks.o, in the archives of programs. So that this member came in says that
    something was compiled by asancol-cc. Programs have them a third time, weak and always: an object that is opened
    later, and was linked by something else, finds these in the program.
 
-   Called: by compiled code, in any thread and in handlers, from before the first constructor on. */
+   Called: by compiled code, in any thread, also in a signal handler, from before the first constructor on. Lock: the
+   program holds what it likes, and none of the recorder's; no function here takes one by itself. Nothing is
+   allocated. */
 #ifndef ASANCOL_CALLBACKS_H
 #define ASANCOL_CALLBACKS_H
 

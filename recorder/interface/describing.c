@@ -136,6 +136,7 @@ struct found {
     char name[SIDE_NAME];
 };
 
+/* The variable of this thread's stack, or the global, that an address is in or nearest to. */
 static enum what find_variable(uintptr_t address, struct found *found)
 {
     struct frame frame;

@@ -1,5 +1,8 @@
-/* Descriptions of addresses and of code, as text: for what a program asks by AddressSanitizer's interface. At any
-   time, but not at once: the system is asked. */
+/* Descriptions of addresses and of code, as text: for what a program asks by AddressSanitizer's interface.
+
+   Called: by reports.c and by the program through the table `reports`, in any thread, also in a signal handler. Lock:
+   it takes none, and writes the caller's room alone; what it asks of the allocator and of globals needs none. It is
+   slow, since the system is asked what can be read. */
 #ifndef ASANCOL_DESCRIBING_H
 #define ASANCOL_DESCRIBING_H
 
@@ -14,6 +17,7 @@ struct text {
     char *at, *end; /* where the next letter goes; and where the last one may, after which there is a zero */
 };
 
+/* An empty text in this room. */
 struct text text_in(char *room, size_t size);
 void text_put(struct text *text, const char *letters);
 void text_put_number(struct text *text, uint64_t number);

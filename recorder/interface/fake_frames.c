@@ -1,4 +1,5 @@
-/* What functions call that keep their variables in frames of a fake stack (fake_stack.h). */
+/* What functions call that keep their variables in frames of a fake stack (fake_stack.h): two functions for each of the
+   sizes of frames. They read __asan_option_detect_stack_use_after_return first, which says whether to ask. */
 #include "interface/callbacks.h"
 #include "interface/fake_frames.h"
 #include "interface/hooks.h"

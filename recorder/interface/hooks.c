@@ -1,8 +1,12 @@
-/* The table that shared objects find in the program. */
+/* The table that shared objects find in the program, `asancol_hooks`.
+
+   Called: the functions of this file itself by the program's dlopen and _exit, in any thread, with no lock of the
+   recorder's. */
 #define _GNU_SOURCE
 #include "interface/hooks.h"
 
 #include "libc/library.h"
+#include "process/root.h"
 #include "process/plain.h"
 #include "shadow/globals.h"
 #include "heap/heap.h"
@@ -32,10 +36,12 @@ static void modules_changed(void)
     stream_write_modules();
 }
 
-static void finish_at_exit(enum finish finish)
+/* Answers the status with which the process is to end. */
+static int finish_at_exit(int status)
 {
-    (void)finish; /* an object always says FINISH_CLOSED */
     recorder_exit(true);
+    int of_run = root_end_at_exit((status & 0xff) << 8);
+    return of_run != STATUS_STAYS ? of_run : status;
 }
 
 #ifdef IS_STATIC

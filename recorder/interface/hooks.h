@@ -1,7 +1,9 @@
 /* How code that is linked into programs and into shared objects reaches the recorder: by the table of the program,
    which a shared object finds if there is one (hooks.def).
 
-   Called: in any thread, also in a handler, and where there is no recorder. */
+   Called: by stubs of calls (calls), by callbacks and by the interface, in any thread, also in a signal handler, and
+   where there is no recorder. Lock: none is taken here, and the caller has none of the recorder's; the functions of the
+   table have their own rules. */
 #ifndef ASANCOL_HOOKS_H
 #define ASANCOL_HOOKS_H
 

@@ -1,4 +1,5 @@
-/* The loader's lock, or the start of the program, lets one thread at a time initialise: so nothing is guarded here. */
+/* A hash table of the files that have been initialised. The loader's lock, or the start of the program, lets one thread
+   at a time initialise: so nothing is guarded here. */
 #include "interface/init_order.h"
 
 #include <stdatomic.h>

@@ -1,7 +1,8 @@
 /* Globals that have no value yet, while a file initialises its own: an access to one is bad then, since it depends on
    the order of files. As AddressSanitizer's check_initialization_order.
 
-   Called: by the constructors of a module, in the thread that loads it. */
+   Called: by the constructors of a module (callbacks.c, by hooks.def), in the thread that loads it, never in a signal
+   handler. Lock: the loader's, or there is one thread: so nothing is guarded here. */
 #ifndef ASANCOL_INIT_ORDER_H
 #define ASANCOL_INIT_ORDER_H
 

@@ -1,6 +1,9 @@
 /* What sanitizer/asan_interface.h, allocator_interface.h, common_interface_defs.h, coverage_interface.h and
-   lsan_interface.h declare. A program that is built for
-   AddressSanitizer may call these, and has to link and run. docs/RECORDER.md says which do something here.
+   lsan_interface.h declare. A program that is built for AddressSanitizer may call these, and has to link and run.
+   docs/RECORDER.md says which do something here.
+
+   Called: by the program, in any thread, also in a signal handler. Lock: none is taken here; what the table of
+   hooks.def leads to has its own rules.
 
    Poison and unpoison are recorded, and questions about them are answered by the shadow. Reports are not there: they
    come from the collector. All are weak: a program has its own callbacks and options, and another sanitizer of the
@@ -10,6 +13,7 @@
 #include "interface/hooks.h"
 #include "interface/interface.h"
 #include "interface/reports.h"
+#include "libc/hook_page.h"
 
 #ifdef IN_SHARED_OBJECT
 #define INTERFACE __attribute__((weak)) /* hidden: each shared object calls its own */
@@ -21,12 +25,14 @@
 
 INTERFACE void __asan_poison_memory_region(const volatile void *start, size_t size)
 {
-    note_regions(CODE_POISON, (uintptr_t)start, size);
+    if (!HOOK_PAGE->switches.has_no_poison)
+        note_regions(CODE_POISON, (uintptr_t)start, size);
 }
 
 INTERFACE void __asan_unpoison_memory_region(const volatile void *start, size_t size)
 {
-    note_regions(CODE_UNPOISON, (uintptr_t)start, size);
+    if (!HOOK_PAGE->switches.has_no_poison)
+        note_regions(CODE_UNPOISON, (uintptr_t)start, size);
 }
 
 static bool is_poisoned(uintptr_t address)
@@ -72,7 +78,8 @@ INTERFACE void __sanitizer_annotate_contiguous_container(const void *start, cons
 {
     uintptr_t before = (uintptr_t)old_middle, middle = (uintptr_t)new_middle;
     const uintptr_t places[] = {before, middle, before, middle};
-    if (lies_outside(FINDING_CONTAINER, (uintptr_t)start, (uintptr_t)end, places, CALLER()))
+    if (HOOK_PAGE->switches.has_no_containers
+        || lies_outside(FINDING_CONTAINER, (uintptr_t)start, (uintptr_t)end, places, CALLER()))
         return;
     uintptr_t low = greatest(least(before, middle) / GRANULE * GRANULE, (uintptr_t)start);
     uintptr_t high = least((greatest(before, middle) + GRANULE - 1) / GRANULE * GRANULE, (uintptr_t)end);
@@ -88,7 +95,8 @@ INTERFACE void __sanitizer_annotate_double_ended_contiguous_container(const void
                                                                       const void *new_first, const void *new_last)
 {
     const uintptr_t places[] = {(uintptr_t)old_first, (uintptr_t)old_last, (uintptr_t)new_first, (uintptr_t)new_last};
-    if (lies_outside(FINDING_DOUBLE_ENDED, (uintptr_t)start, (uintptr_t)end, places, CALLER()))
+    if (HOOK_PAGE->switches.has_no_containers
+        || lies_outside(FINDING_DOUBLE_ENDED, (uintptr_t)start, (uintptr_t)end, places, CALLER()))
         return;
     bool was_empty = old_first == old_last, is_empty = new_first == new_last;
     uintptr_t first = (uintptr_t)new_first / GRANULE * GRANULE, last = (uintptr_t)new_last;

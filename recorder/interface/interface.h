@@ -1,6 +1,7 @@
 /* AddressSanitizer's interface, as far as the recorder itself calls it.
 
-   Called: at the start, in its thread. */
+   Called: by start.c, in the thread that starts the recorder, once, without a lock. What the program calls is in
+   interface.c. */
 #ifndef ASANCOL_INTERFACE_H
 #define ASANCOL_INTERFACE_H
 

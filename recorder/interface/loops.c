@@ -19,14 +19,14 @@ static inline uint64_t strip(void)
     return is_alone ? STRIP_ALONE : STRIP_BESIDE_OTHERS;
 }
 
-/* As many rounds as one look at the shadow is for: all, or a multiple of `unit`. */
+/* As many rounds as one look at the shadow is for: all, or a multiple of `unit`, or none if there is to be one look. */
 static inline uint64_t cut(uint64_t rounds, uint64_t instructions, uint64_t unit)
 {
     const uint64_t most = strip();
     uint64_t all;
     if (!__builtin_mul_overflow(rounds, instructions, &all) && all <= most)
         return rounds;
-    return most / instructions & ~(unit - 1);
+    return unit == WHOLE ? 0 : most / instructions & ~(unit - 1);
 }
 
 /* Whether each byte of a region is addressable: most of it by wide loads, and the rest as elsewhere. */
@@ -34,7 +34,7 @@ static inline bool is_clean(uint64_t address, uint64_t size)
 {
     typedef uint64_t lanes __attribute__((vector_size(16), aligned(1), may_alias));
     enum { LOADS = 8, PIECE = LOADS * sizeof(lanes) * GRANULE };
-    if (address >= MEMORY_END || size > MEMORY_END - address)
+    if (address >= MEMORY_END || size > MEMORY_END - address || is_in_hole(address))
         return false;
     for (; size > PIECE; address += PIECE, size -= PIECE) {
         const lanes *at = (const lanes *)(uintptr_t)shadow_of(address);
@@ -63,7 +63,8 @@ static inline bool are_good(uint64_t rounds, uintptr_t start, int64_t step, uint
 CALLBACK uint64_t __asan_good_loop(uint64_t rounds, uintptr_t start, int64_t step, uint64_t bytes,
                                    uint64_t instructions, uint64_t unit)
 {
-    return are_good(rounds, start, step, bytes, instructions) ? cut(rounds, instructions, unit) : 0;
+    uint64_t next = cut(rounds, instructions, unit);
+    return next != 0 && are_good(rounds, start, step, bytes, instructions) ? next : 0;
 }
 
 /* How many of the next rounds need none. */

@@ -1,6 +1,7 @@
 /* What the copies of loops without checks (loops/versions.cpp) ask for.
 
-   Called: by compiled code, in any thread, also in a handler; no lock: the shadow is only read. */
+   Called: by compiled code, in any thread, also in a signal handler. Lock: none: the shadow is only read. The names and
+   numbers also by the plugin for Clang and by the wrapper, which are other programs. */
 #ifndef ASANCOL_INTERFACE_LOOPS_H
 #define ASANCOL_INTERFACE_LOOPS_H
 
@@ -16,5 +17,7 @@
 #define STRIP_BESIDE_OTHERS (UINT64_C(1) << 12)
 /* A strip of an innermost loop is a multiple of this many rounds, except the last one: vectors fit into it. */
 #define STRIP_UNIT UINT64_C(64)
+/* In its place: the loop runs in one strip, or with its checks. */
+#define WHOLE UINT64_C(0)
 
 #endif

@@ -1,6 +1,8 @@
 /* Objects that Clang has compiled call these in the place of three functions of the C library. They go to the stubs of
    these by a jump, so that the caller is the program; in a static program, which has no stubs, to the functions.
 
+   Called: by compiled code, in any thread, also in a signal handler. Lock: none, as for any memcpy.
+
    For programs they are compiled twice, as callbacks.h says of the others. Those of the program's own objects bring the
    stubs in; the weak ones, which are always there, go to stubs if these are in the program for its libraries. */
 

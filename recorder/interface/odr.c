@@ -2,7 +2,8 @@
    byte that they share, the indicator. GCC has that of the module itself, and no indicator for kernel-address: there
    two definitions are found by the names that their modules show to the loader.
 
-   Tables come one after another, with the loader's lock or before there are threads. */
+   `names` says by bits of hashes which names have come. Tables come one after another, with the loader's lock or before
+   there are threads. */
 #define _GNU_SOURCE
 #include "interface/odr.h"
 
@@ -151,6 +152,7 @@ static void look_in_modules(struct search *search)
 #endif
 }
 
+/* Looks for another definition of a global that comes: by its indicator, by its redzones, or by its name. */
 static void look_at(const struct global *global, uintptr_t caller)
 {
     struct search search = {.global = global, .caller = caller};

@@ -1,3 +1,5 @@
+/* Stateless: two pointers near to each other are judged by the shadow between them, others by the variable, block or
+   global that the lower one is in. */
 #include "interface/pairs.h"
 
 #include <stdbool.h>
@@ -42,6 +44,7 @@ static uintptr_t global_of(uintptr_t address)
     return globals_find(address, &global) ? global.start : 0;
 }
 
+/* Whether the two, of which `left` is the lower one, are not of one object. */
 static bool is_invalid(uintptr_t left, uintptr_t right)
 {
     uintptr_t start;

@@ -1,13 +1,14 @@
 /* Pairs of pointers that are compared, or of which one is subtracted from the other: both have to be of one object. As
    AddressSanitizer's detect_invalid_pointer_pairs.
 
-   Called: by compiled code, in any thread, also in a handler. */
+   Called: by compiled code (callbacks.c, by hooks.def), in any thread, also in a signal handler. Lock: none: it only
+   reads the shadow, the notes of blocks and of globals; a finding is noted as findings.h says. */
 #ifndef ASANCOL_PAIRS_H
 #define ASANCOL_PAIRS_H
 
 #include <stdint.h>
 
-/* Notes that they are not. */
+/* Notes it if they are not. */
 void pair_look(uintptr_t one, uintptr_t other, uintptr_t caller);
 
 #endif

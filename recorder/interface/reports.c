@@ -1,5 +1,6 @@
 /* A report is told once for each place, as AddressSanitizer does if it goes on. One thread tells at a time: `telling`
-   is its lock, which guards `report` and the text. No thread waits for it, since a callback may do anything. */
+   is its lock, which guards `report`, its texts and `places`. No thread waits for it, since a callback may do
+   anything: a report that comes meanwhile is dropped. */
 #define _GNU_SOURCE
 #include "interface/reports.h"
 
@@ -31,20 +32,22 @@ static void (*_Atomic callback)(const char *text);
 static _Thread_local struct told waiting;
 static _Thread_local bool has_waiting;
 
-/* Where reports were told: addresses after calls. Once it is full, no other one is told. */
+/* Where reports were told: the address after the call, plus 1; 0: a free entry. Once it is full, no other one is
+   told. */
 enum { MOST_PLACES = 1 << 10 };
-static _Atomic uintptr_t places[MOST_PLACES];
+static uintptr_t places[MOST_PLACES];
 
-static bool is_first_at(uintptr_t place)
+/* Notes the place of a report. False: it was noted before, or there is no room. A place may be 0, where a function is
+   left by a jump to another one and nothing has called it: as at the bottom of a stack that the program has made. */
+static bool note_place(uintptr_t place)
 {
-    for (size_t i = 0; i < MOST_PLACES; i++) {
-        uintptr_t seen = 0;
-        if (atomic_compare_exchange_strong(&places[i], &seen, place))
-            return true;
-        if (seen == place)
-            return false;
-    }
-    return false;
+    size_t i = 0;
+    while (i < MOST_PLACES && places[i] != 0 && places[i] != place + 1)
+        i++;
+    if (i == MOST_PLACES || places[i] != 0)
+        return false;
+    places[i] = place + 1;
+    return true;
 }
 
 /* Names. asancol_report/class_names.py has them for reports. */
@@ -89,12 +92,13 @@ static const char *class_of_access(const struct told *told)
     uint64_t bad = shadow_first_bad(told->address, told->size);
     if (told->call != NULL && told->size > PTRDIFF_MAX)
         return "negative-size-param";
-    if (bad >= MEMORY_END)
+    if (is_beyond(bad, 1))
         return "unknown-crash";
     unsigned char shade = *shadow_of(bad);
     return class_of_shade(shade != 0 && shade < GRANULE ? *shadow_of(bad + GRANULE) : shade);
 }
 
+/* The text may be put together here, and is there up to the next report: one is told at a time. */
 static const char *class_of_finding(const struct told *told)
 {
     static char name[SIDE_CALL + 16];
@@ -137,7 +141,7 @@ static const char *class_of(const struct told *told)
         return class_of_finding(told);
     if (told->code != CODE_FREE)
         return class_of_access(told);
-    return told->address < MEMORY_END && *shadow_of(told->address) == SHADE_FREED ? "double-free" : "bad-free";
+    return !is_beyond(told->address, 1) && *shadow_of(told->address) == SHADE_FREED ? "double-free" : "bad-free";
 }
 
 /* The text, in the form of AddressSanitizer's. */
@@ -205,13 +209,14 @@ static void note(const struct told *told, uintptr_t frame)
     report.size = report.is_access ? told->size : 0;
 }
 
+/* The lock comes before the place: a report that is dropped leaves its place to the next one there. */
 static void tell(const struct told *told, uintptr_t frame)
 {
     void (*tell_text)(const char *) = atomic_load(&callback);
     int before = errno;
     if (!lock_try(&telling))
         return;
-    if (is_first_at(told->caller)) {
+    if (note_place(told->caller)) {
         note(told, frame);
         atomic_store(&now, &report);
         struct text text = text_in(report_text, sizeof report_text);
@@ -307,6 +312,7 @@ static const char *report_path(void)
     return output.name;
 }
 
+/* Writes to where the program wants texts, which is opened for the first of them. */
 static void write_text(const char *text)
 {
     const char *path = report_path();

@@ -1,11 +1,15 @@
-/* What compiled code calls for variables on the stack, for globals and for arrays. Most redzones of a frame it writes
-   itself. */
+/* What compiled code calls for variables on the stack, for globals and for arrays: each call writes the shadow. Most
+   redzones of a frame compiled code writes itself.
+
+   Called: for variables and arrays by compiled code, in any thread, also in a signal handler, without a lock. For
+   globals by the constructors and destructors of a module, with the loader's lock, or before there are threads. */
 #include <string.h>
 
 #include "interface/callbacks.h"
 #include "shadow/globals.h"
 #include "interface/hooks.h"
 #include "interface/registering.h"
+#include "libc/hook_page.h"
 #include "shadow/mapping.h"
 
 /* By the redzone that the table itself is, of what lies beside it. Of its globals some may be in other tables too: a
@@ -118,7 +122,8 @@ CALLBACK void __asan_unpoison_intra_object_redzone(uintptr_t address, size_t siz
 /* Clang's count of the elements of an array that `new` has made, if they have destructors. */
 CALLBACK void __asan_poison_cxx_array_cookie(uintptr_t address)
 {
-    note_poison_of_count(address);
+    if (!HOOK_PAGE->switches.has_no_counts)
+        note_poison_of_count(address);
 }
 
 /* Before they are called. Of an array that was freed there is none: the free that follows is reported. */

@@ -1,6 +1,10 @@
 /* The locks are taken in this order: the loader's, the allocator's. A thread that has the loader's may wait for the
-   allocator's, and no thread the other way round. Then the other threads are stopped, and from there on nothing is
-   called that takes a lock: any other one may be held by a thread that stands still. */
+   allocator's, and no thread the other way round. Then the other threads are stopped, and until they go on nothing is
+   called that takes a lock: any other one may be held by a thread that stands still. So of the C library only
+   dl_iterate_phdr is called, whose lock this thread has, and what takes none (roots.c). This thread is undisturbed
+   (base/disturbance.h) all the time.
+
+   `struct search` is what one search has found: groups of lost blocks (lost.h), or why there is none. */
 #define _GNU_SOURCE
 #include "leaks/leaks.h"
 
@@ -21,7 +25,7 @@
 #include "leaks/lost.h"
 #include "leaks/marking.h"
 #include "leaks/roots.h"
-#include "leaks/world.h"
+#include "process/world.h"
 #include "environment/startup.h"
 #include "stream/findings.h"
 #include "stream/side.h"
@@ -38,7 +42,8 @@ struct search {
     struct lost lost;
 };
 
-/* With the lock of the allocator. Returns why it can't be done, or null. */
+/* With the lock of the allocator, which is held until the end. The others stand still only while marks are made.
+   Returns why it can't be done, or null. */
 static const char *find_lost(struct search *search)
 {
     if (!arena_is_found())
@@ -87,6 +92,7 @@ static void search_all(struct search *search)
 
 #endif
 
+/* Makes a finding of each group, once the locks are given back. */
 static void note(const struct lost *lost)
 {
     for (size_t i = 0; i < lost->count; i++) {
@@ -117,7 +123,7 @@ static bool look_from(uintptr_t frame)
     struct search search = {.frame = frame};
     struct disturbance before;
     if (heap_is_entered()) {
-        search.why = "a signal came in the middle of an allocation";
+        search.why = "a signal interrupted the allocator";
     } else {
         _Atomic uint64_t *calls = side_begin_calls(false);
         undisturbed_begin(&before);

@@ -1,6 +1,8 @@
 /* Blocks that are lost, by where they were allocated.
 
-   Called: by leaks.c, while all other threads stand still, with the loader's lock and the allocator's. */
+   Called: lost_find by leaks.c, in the thread that looks for leaks, with the loader's lock and the allocator's, between
+   marking_begin and marking_end; other threads run again by then, and wait if they want to allocate. lost_forget
+   without a lock. Memory is taken from the system. */
 #ifndef ASANCOL_LOST_H
 #define ASANCOL_LOST_H
 
@@ -25,8 +27,8 @@ struct lost {
     size_t count, room;
 };
 
-/* Sums up the blocks that have no mark, or that of indirectly lost ones (marking.h). The lock of the allocator is
-   held. Without memory for it there are none; false then. */
+/* Sums up the blocks that have no mark, or that of indirectly lost ones (marking.h). Without memory for it there are
+   none; false then. */
 bool lost_find(struct lost *lost);
 /* Gives its memory back. */
 void lost_forget(struct lost *lost);

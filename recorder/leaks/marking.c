@@ -1,5 +1,5 @@
-/* A byte for each block, and a stack of those that were reached and not looked through. No recursion, and no memory of
-   the allocator's. */
+/* A byte for each block, and a list of those that were reached and not looked through, the last one first. No
+   recursion, and no memory of the allocator's. */
 #define _GNU_SOURCE
 #include "leaks/marking.h"
 
@@ -74,6 +74,7 @@ static const struct block *block_before(uintptr_t address)
     return is_count && *(const size_t *)block_start(block) == 0 ? block : NULL;
 }
 
+/* The block in use to which a word leads, or null. */
 static inline const struct block *block_led_to(uintptr_t word)
 {
     if (LIKELY(!is_in_arena(word)))

@@ -47,7 +47,7 @@ void root_region_add(const void *start, size_t size)
         *entry = (struct region){(uintptr_t)start, size};
     heap_unlock();
     if (entry == NULL && size != 0)
-        recorder_say("leaks may be said that are none: ", "__lsan_register_root_region", "there are too many regions");
+        recorder_say("false leaks are possible: ", "__lsan_register_root_region", "there are too many regions");
 }
 
 void root_region_remove(const void *start, size_t size)

@@ -1,6 +1,8 @@
 /* Memory that the process has named as a root, by __lsan_register_root_region.
 
-   Called: by the program, in any thread, and by roots.c; the allocator's lock guards the table. */
+   Called: root_region_add and root_region_remove by the program (through interface/), in any thread: they take the
+   allocator's lock, which guards the table. root_regions_visit by roots.c with that lock, in the thread that looks for
+   leaks, while all others stand still; it takes memory from the system. */
 #ifndef ASANCOL_ROOT_REGIONS_H
 #define ASANCOL_ROOT_REGIONS_H
 
@@ -12,7 +14,7 @@
 /* Adds a region, or takes one away that has the same start and size; if there is none, nothing. */
 void root_region_add(const void *start, size_t size) OWN_NAME(root_region_add);
 void root_region_remove(const void *start, size_t size) OWN_NAME(root_region_remove);
-/* Visits what of them can be read. The lock of the allocator is held, which guards them. */
+/* Visits what of them can be read. */
 void root_regions_visit(void (*visit)(uintptr_t start, uintptr_t end));
 
 #endif

@@ -14,7 +14,7 @@
 #include "heap/heap.h"
 #include "leaks/marking.h"
 #include "leaks/root_regions.h"
-#include "leaks/world.h"
+#include "process/world.h"
 #include "process/threads.h"
 #include "shadow/shadow.h"
 #include "stacks/fake_stack.h"

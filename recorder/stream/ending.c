@@ -172,6 +172,7 @@ void ending_go_on_closing(void)
     go_on_closing(STATE_SUSPENDED);
 }
 
+/* Ends the stream with a close, and lets it go on after that if it can. */
 static void close_at(uint64_t cursor, bool is_last)
 {
     bool is_over = is_last && !has_other_threads();

@@ -1,7 +1,8 @@
 /* The end of a stream: at its limit, at an exit, at the end by a signal, and of a segment.
 
-   Called: in the thread that ends the process or comes to the limit, also in a handler; each says if the lock is
-   held. */
+   Called: stream_end and stream_close by process/process.c, in the thread that ends the process, stream_end also in a
+   handler; ending_at_limit by places.c, in the thread whose record is one too many, also in a handler. These three take
+   the lock. stream_has_one_end by start/start.c, without it. The rest by switching.c and suspending.c, with it. */
 #ifndef ASANCOL_ENDING_H
 #define ASANCOL_ENDING_H
 
@@ -18,7 +19,7 @@ enum finish ending_of(uint64_t cursor, enum finish finish);
    ending is noted before the last bytes are sent: a hub that has all of them finds it. False: it was lost. */
 bool ending_at(uint64_t end, uint64_t limit, enum finish finish, enum ending ending, int number);
 /* The event whose record would begin here is one too many. The records before it get their room first: other threads
-   are writing them. At any time. */
+   are writing them. */
 void ending_at_limit(uint64_t end);
 /* In a segment that begins while the process exits: writes the close, and goes on. The lock is held and the stream is
    switching. */

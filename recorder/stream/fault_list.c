@@ -1,5 +1,5 @@
-/* The entries lie beside the stream, and `known` is a hash table of their numbers, for the newest list. An entry is
-   taken by its number first, and filled then. */
+/* The entries lie beside the stream, and `known` is a hash table of their numbers, for the newest list. A thread takes
+   a number, fills its entry, and then puts the number into `known`, where others find it. */
 #define _GNU_SOURCE
 #include "stream/fault_list.h"
 
@@ -14,7 +14,7 @@
 #define KNOWN ((uint64_t)1 << 17)
 _Static_assert(FAULT_NUMBER == KNOWN - 1, "a number is a place in the table");
 _Static_assert(SIDE_FAULTS < KNOWN, "there is always a free place, and a number has room");
-static AS_TABLE _Alignas(PAGE) _Atomic uint64_t known[KNOWN];
+static AS_TABLE _Alignas(MOST_PAGE) _Atomic uint64_t known[KNOWN];
 
 void fault_list_forget(void)
 {
@@ -57,7 +57,7 @@ struct side_fault *fault_list_at(const struct list *list, uint32_t number)
     return (struct side_fault *)(list_bytes(list) + SIDE_FAULTS_AT) + (number - 1);
 }
 
-/* Adds an entry to the list, whose threads get their numbers there. Answers its number, or 0. */
+/* Adds an entry to the list, and fills it. Its threads get their numbers there. Answers its number, or 0. */
 static uint32_t add_fault(struct list *list, const struct side_fault *fault)
 {
     _Atomic uint32_t *count = (_Atomic uint32_t *)&((struct side *)list_bytes(list))->fault_count;

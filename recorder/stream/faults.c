@@ -86,6 +86,8 @@ static uint32_t block_fault(struct list *list, uint64_t hash, uint64_t bad, stru
     return fault_list_add(list, hash_of(list, hash, fault), fault);
 }
 
+/* The fault of an access outside blocks, by the nearest variable. The description of a frame is read if it is not
+   `recent`. */
 static uint32_t variable_fault(struct list *list, uint64_t hash, uint64_t bad, struct side_fault *fault)
 {
     struct frame frame = {0, 0, 0};

@@ -1,6 +1,11 @@
 /* Faults: the circumstances of an access or a free that is bad by the shadow. Each is one entry beside the stream, with
    the block or the variable that is nearest. An index there has for each event the number of its fault. So a loop over
-   bad bytes is one fault, and good ones cost nothing. */
+   bad bytes is one fault, and good ones cost nothing.
+
+   Called: faults_begin by opening.c and faults_are_cut by keeping.c, with the stream's lock, or before there is a
+   stream; the rest by watched.c, findings.c and process/signals.c, in the thread that meets the fault, also in a
+   handler, with or without the allocator's lock. These take no lock, only atomics; but a side file may have to get room
+   on the disk, and then side_back takes the stream's for a moment. Nothing is allocated. */
 #ifndef ASANCOL_FAULTS_H
 #define ASANCOL_FAULTS_H
 
@@ -23,7 +28,7 @@ void fault_end(unsigned window);
 /* What the index is to have of a bad piece of an access, this many bytes from an address on: the number of its fault,
    from 1, with SIDE_IS_PIECE if another piece was noted before; 0 if there is no room for it. All pieces in a list have
    the fault that the first of them has there. It is found before its event has its place in the stream, for which other
-   threads may wait. At any time, and in a signal handler too. */
+   threads may wait. */
 uint32_t fault_of(unsigned window, struct access *access, unsigned width, uint64_t address);
 /* Notes where a signal has met the process, the address that could not be accessed, and enum side_how. */
 void fault_note_last(call_site last, uint64_t address, uint32_t how);

@@ -6,6 +6,7 @@
 #include <errno.h>
 #include <string.h>
 
+#include "environment/asan_options.h"
 #include "shadow/shadow.h"
 #include "stream/fault_list.h"
 #include "stream/faults.h"
@@ -30,6 +31,7 @@ static uint64_t events_now(void)
     return atomic_load(&STREAM->cursor) << 1 >> 33;
 }
 
+/* The entry that a finding has in a list. */
 static struct side_fault entry_for(struct list *list, const struct finding *finding)
 {
     struct side_fault entry = {.kind = finding->kind, .block = finding->block, .block_size = finding->block_size,
@@ -67,6 +69,7 @@ static bool count(struct side_fault *entry, const struct finding *finding)
     return atomic_exchange(times, finding->count) == 0;
 }
 
+/* Adds a finding to a list, or counts it there once more. */
 static void note_in(struct list *list, const struct finding *finding)
 {
     struct side_progress *progress = (struct side_progress *)(list_bytes(list) + SIDE_PROGRESS);
@@ -112,6 +115,8 @@ void finding_note(const struct finding *finding)
 
 void finding_note_call(const struct wrong_call *wrong)
 {
+    if (wrong->call != NULL && !asan_options_check_call(wrong->call))
+        return;
     finding_note(&(struct finding){.kind = wrong->kind, .call_site = call_site_of(wrong->caller), .call = wrong->call,
                                    .start = wrong->start, .size = wrong->size, .other = wrong->other});
 }

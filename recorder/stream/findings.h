@@ -1,7 +1,8 @@
 /* Findings: what the recorder knows to be wrong, and no event of the stream shows. Each is one entry in the list of
    faults, for each call site with its stack. Nobody checks it again: it is the recorder's word.
 
-   Called: at any time, also in a handler, with or without the allocator's lock. */
+   Called: by heap/, leaks/ and interface/, in any thread, also in a handler, with or without the allocator's lock. No
+   lock here: the list is atomic (fault_list.h). The program may be told (telling.h), which runs its code. */
 #ifndef ASANCOL_FINDINGS_H
 #define ASANCOL_FINDINGS_H
 
@@ -32,8 +33,9 @@ struct wrong_call {
     uint64_t start, size, other; /* as of a finding */
 };
 
-/* Notes one, if there is anything beside the stream; at any time, and in a signal handler too. errno stays as it is. */
+/* Notes one, if there is anything beside the stream. errno stays as it is. */
 void finding_note(const struct finding *finding) OWN_NAME(finding_note);
+/* The same of a call, unless an option leaves out its function. */
 void finding_note_call(const struct wrong_call *wrong) OWN_NAME(finding_note_call);
 
 #endif

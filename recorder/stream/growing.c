@@ -1,3 +1,4 @@
+/* STREAM->ready is how far there is room. It grows by steps, once the file or the window has them. */
 #include "stream/growing.h"
 
 #include "stream/locked.h"
@@ -5,6 +6,7 @@
 #include "stream/sending.h"
 #include "stream/windows.h"
 
+/* One step. Answers what went wrong, or null. */
 static const char *grow(void)
 {
     uint64_t next = atomic_load(&STREAM->ready) + (is_file() ? FILE_STEP : PIECES_STEP);

@@ -92,6 +92,7 @@ static unsigned fill_hole(uint64_t offset, uint64_t end)
     return 0;
 }
 
+/* Moves `checked` over whole records, and fills holes. Answers how many these were. */
 static unsigned go_over(uint64_t end, uint64_t limit, enum patience patience)
 {
     int looks = 0;

@@ -1,5 +1,9 @@
 /* Records that are whole, and holes: records that were begun and will never be written, as when a signal handler left
-   by a jump. */
+   by a jump.
+
+   Called: holes_fill and holes_fill_again by the thread whose place that is, also in a handler, without a lock;
+   holes_check with the stream's lock, by whoever ends, switches or sends, in any thread. A place that is filled is won
+   by one compare-and-swap of its code, so its thread may come back to it at any time. */
 #ifndef ASANCOL_HOLES_H
 #define ASANCOL_HOLES_H
 
@@ -12,7 +16,7 @@ void holes_fill(unsigned char *at, unsigned length);
 /* The same, where one was put into the place of this thread's record, whose bytes may stand there now. */
 void holes_fill_again(unsigned char *at);
 /* Goes on over the records that are whole, up to `end`, which is a border. With patience it waits for others to finish
-   theirs, and then fills holes. Answers how many these were. The lock is held. */
+   theirs, and then fills holes. Answers how many these were. */
 unsigned holes_check(uint64_t end, uint64_t limit, enum patience patience);
 
 #endif

@@ -67,6 +67,7 @@ void tail_trim(uint64_t end, enum ending ending)
 
 /* A recording that ends early. */
 
+/* The stream that had this cursor is off, and gets its end. */
 static void end_early(uint64_t cursor, const char *why)
 {
     uint64_t end = (uint32_t)cursor, ready = atomic_load(&STREAM->ready);
@@ -127,6 +128,6 @@ void stream_say_left_out(void)
     /* A hub says it by itself. */
     if (left_out == 0 || (is_hub() && atomic_load_explicit(&STREAM->has_side, memory_order_relaxed)))
         return;
-    recorder_say("at the limit, further events left out of ", locked.trace.path,
+    recorder_say("events beyond the limit are missing in ", locked.trace.path,
                  put_digits(digits + sizeof digits, left_out, 1));
 }

@@ -1,6 +1,8 @@
 /* Keeping a stream whole: it has a right end whenever it ends, and where nothing more can be kept that is said.
 
-   Any thread of the program, also in a handler; the lock of the stream is held where nothing else is said. */
+   Called: by the other files of stream/, in any thread, also in a handler, with the stream's lock. Without it:
+   tail_length, tail_follow, keeping_leave_out, stream_say_left_out; stream_stop, which takes it, by heap/ and process/;
+   and stream_has_lost, by process/signals.c. */
 #ifndef ASANCOL_KEEPING_H
 #define ASANCOL_KEEPING_H
 
@@ -16,10 +18,11 @@ enum finish { FINISH_CLOSED, FINISH_OPEN, FINISH_AT_LIMIT };
 
 /* How many bytes that is. */
 unsigned tail_length(enum finish finish);
+/* Puts it there. */
 void tail_put(uint64_t offset, enum finish finish);
 /* What has a close, and goes on, has none any more. */
 void tail_take_close_away(void);
-/* Puts the close after a record that is not written yet: once it is, the stream ends there. At any time. */
+/* Puts the close after a record that is not written yet: once it is, the stream ends there. */
 void tail_follow(uint64_t end);
 /* Cuts the files after the last record or the close, and the last fault. */
 void tail_trim(uint64_t end, enum ending ending);
@@ -28,17 +31,18 @@ void tail_leave(void);
 
 /* A recording that ends early, with a line that says why. */
 
-/* No more is recorded. The stream ends after its last whole record, without a close. The lock is held. */
+/* No more is recorded. The stream ends after its last whole record, without a close. */
 void keeping_give_up(const char *why);
 /* The same for a stream that a thread was switching from, and that had this cursor. */
 void keeping_give_up_at(uint64_t cursor, const char *why);
-/* The same, if it is recording. The lock is taken. */
+/* The same, if it is recording. */
 void stream_stop(const char *why);
-/* Whether this address is in the mapped trace, and what to do if the file under it is gone. In a handler of SIGBUS,
-   which may have interrupted who has the lock. */
+/* Whether this address, where there is no memory, is in a window: then plain memory takes the place of the file; and if
+   it is that of the stream now, the recording has ended. In a handler of SIGBUS, which may have interrupted who has the
+   lock. */
 bool stream_has_lost(const void *address);
 
-/* Events that find no place in the stream. At any time. */
+/* Counts an event that finds no place in the stream. */
 
 void keeping_leave_out(void);
 /* Says how many these were, if there were any. */

@@ -1,5 +1,10 @@
 /* What lies beside the stream: a list of faults, one of threads, and stacks and texts. Each window of the stream has
-   its own. Any thread adds to them, at any time, also in a signal handler. */
+   its own.
+
+   Called: list_begin and list_forget_backed by faults.c, with the stream's lock, or before there is a stream; the rest
+   by faults.c, fault_list.c, findings.c, near.c and thread_list.c, in any thread, also in a handler. No lock: the
+   counts are atomic, and a thread fills what it has counted for itself. But list_back may take the stream's for a
+   moment, to get room on the disk. */
 #ifndef ASANCOL_LISTS_H
 #define ASANCOL_LISTS_H
 
@@ -26,16 +31,19 @@ struct list {
 
 /* Of a window. A thread that has begun in one goes on there, whatever comes after. */
 struct list *list_of(unsigned window);
+/* The window of a list. */
 unsigned list_window(const struct list *list);
+/* The list of the stream that there is now, or was last. */
 struct list *list_newest(void);
-/* The list of this window begins, and is the newest. The lock of the stream is held. */
+/* The list of this window begins, and is the newest. */
 void list_begin(unsigned char *bytes, unsigned window);
 /* What the side file had beyond its end is gone. */
 void list_forget_backed(struct list *list);
 
 unsigned char *list_bytes(const struct list *list);
-/* Whether a part of the side file has memory; the second asks for it. */
+/* Whether a part of the side file has memory. */
 bool list_is_backed(const struct list *list, uint64_t offset, uint64_t length);
+/* The same, once it was asked for (side_back in side.h, also for `has_place`). */
 bool list_back(struct list *list, uint64_t offset, uint64_t length, bool has_place);
 /* Raises a count that is in the side file. */
 void list_raise(_Atomic uint32_t *count, uint32_t least);

@@ -1,4 +1,7 @@
-/* What the lock of the stream guards (state.h): where it is written, and how far it was gone over. */
+/* What the lock of the stream guards (state.h): where it is written, and how far it was gone over.
+
+   Called: nothing but length_to. The files of stream/ read and write `locked` in whichever thread has the lock, which
+   stream_lock (state.h) takes; before there is a stream, in the thread that starts it. */
 #ifndef ASANCOL_LOCKED_H
 #define ASANCOL_LOCKED_H
 
@@ -14,7 +17,7 @@ extern struct locked {
     uint64_t start;          /* the offset at which the stream begins */
     uint64_t checked;        /* up to here the records were seen to be whole, */
     uint64_t checked_events; /* their number */
-    uint64_t generation;     /* of modules, as the loader has counted them just before an exit; or 0 */
+    uint64_t generation;     /* of modules, as the loader has counted them just before an exit or exec; or 0 */
     bool takes_snapshot;     /* what a segment begins with, just now, */
     bool is_overfull;        /* for which there was no room */
     bool goes_on;            /* after the data written at an exit */

@@ -1,6 +1,7 @@
 /* The map of modules, as the system writes it: text, a line for each part.
 
-   Called: at any time, with memory of who calls; no lock. */
+   Called: by modules.c and side.c, and by process/, heap/families.c and leaks/, in any thread, also in a handler. No
+   lock: nothing is kept, and all memory is the caller's. */
 #ifndef ASANCOL_MAPS_H
 #define ASANCOL_MAPS_H
 

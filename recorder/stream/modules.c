@@ -42,6 +42,7 @@ enum { HEADS = 16, MODULES = 256 };
 static AS_TABLE struct module modules[MODULES]; /* of the map that is being noted, by their starts */
 static unsigned modules_count;
 
+/* What the head of a module's file says of it. */
 static void take_head(struct module *module, const struct map_head *head)
 {
     struct note build = {0};
@@ -142,6 +143,7 @@ static size_t without_nameless_data(char *lines, size_t length)
     return to + length - from;
 }
 
+/* Reads the map of the process, and puts a zero after it. 0: it can't be read. */
 static size_t read_map(char *to, size_t room)
 {
     /* The last line of all, where there is one: after it nothing needs to be asked for. */
@@ -185,6 +187,7 @@ static bool take_code(struct rest *rest)
     return false;
 }
 
+/* Whether a map has the same lines of code as the noted one. */
 static bool has_noted_code(const char *map, size_t length)
 {
     struct rest now = {.at = map, .end = map + length}, before = {.at = noted.map, .end = noted.map + noted.open};
@@ -246,6 +249,7 @@ static bool find_before(struct side_build *build, const struct side_build *befor
     return false;
 }
 
+/* Notes the build ids of the map's modules; one that can't be read now keeps the id that it had. */
 static void note_builds(void)
 {
     static AS_TABLE struct side_build before[SIDE_BUILD_COUNT];

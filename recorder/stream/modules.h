@@ -1,6 +1,9 @@
 /* The note of modules: the mapped files, their build ids, and what of them was not checked. It is kept,
    and copied to what stands beside the stream: a forked child has its parent's, which was made anew before the fork if
-   the loader had loaded or unloaded something by then. The lock of the stream is held in all of these. */
+   the loader had loaded or unloaded something by then.
+
+   Called: by side.c, and module_at also by process/unchecked.c as it makes the list of unchecked code (`above`,
+   state.h): in any thread, also in a handler. Lock: the stream's; at the start no other thread is in the stream. */
 #ifndef ASANCOL_MODULES_H
 #define ASANCOL_MODULES_H
 

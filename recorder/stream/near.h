@@ -1,6 +1,7 @@
 /* What lies nearest to a bad byte: a block, or a variable. It is described in the fault.
 
-   Called: by faults.c and findings.c, at any time, also in a handler. */
+   Called: by faults.c and findings.c, near_name_global by interface/odr.c, in any thread, also in a handler. No lock:
+   the allocator's notes are read without it (heap/nearest.c), and what may be gone by memory_read. */
 #ifndef ASANCOL_NEAR_H
 #define ASANCOL_NEAR_H
 
@@ -23,6 +24,7 @@ void near_block(struct list *list, uint64_t address, struct side_fault *fault);
 void near_global(uint64_t address, struct side_fault *fault);
 /* Puts "NAME FILE:LINE" of a global into a name that is zeros. */
 void near_name_global(const struct global *global, char name[SIDE_NAME]);
+/* The variable of a frame that is nearest, and the text of all of its variables. */
 void near_variable(struct list *list, const struct frame *frame, uint64_t address, struct side_fault *fault);
 /* An array of variable length, or an alloca. False: none is there. */
 bool near_array(uint64_t address, struct side_fault *fault);

@@ -39,7 +39,7 @@ bool opening_side(struct output *side, const struct output *trace, unsigned numb
         of = side->path;
     }
     if (why != NULL)
-        recorder_say("nothing is kept beside the trace: ", of, why);
+        recorder_say("no data are kept beside the trace: ", of, why);
     return why == NULL;
 }
 
@@ -60,7 +60,7 @@ const char *opening_hub(const struct settings *settings)
     window = windows_of_side(locked.window);
     const char *why_not = output_open_memory(&locked.side, window, &locked.trace, settings->patience_ms);
     if (why_not != NULL) {
-        recorder_say("nothing is kept beside the trace: ", settings->hub, why_not);
+        recorder_say("no data are kept beside the trace: ", settings->hub, why_not);
         return output_send(&locked.trace, HEADER_LENGTH, true, settings->patience_ms);
     }
     locked.has_side = true;

@@ -1,4 +1,8 @@
-/* The beginning of a stream: where it goes, and its header. */
+/* The beginning of a stream: where it goes, and its header.
+
+   Called: stream_begin and stream_forget by process/process.c, with the allocator's lock: in the thread that starts the
+   recorder, where no other thread is in the stream, or in a forked child. The rest by switching.c, in the thread that
+   switches, with the stream's lock. */
 #ifndef ASANCOL_OPENING_H
 #define ASANCOL_OPENING_H
 
@@ -7,13 +11,12 @@
 #include "environment/settings.h"
 #include "stream/output.h"
 
-/* Opens the output, writes the header, and turns the stream on. False: one line said why not. No other thread is in the
-   stream. */
+/* Opens the output, writes the header, and turns the stream on. False: one line said why not. */
 bool stream_begin(const struct settings *settings);
 /* In a child: forgets the parent's stream. The same. */
 void stream_forget(void);
 
-/* The lock of the stream is held for these. */
+/* For the next segment. */
 
 /* Opens what stands beside a trace, in a window. Without it the trace is no worse. */
 bool opening_side(struct output *side, const struct output *trace, unsigned number);

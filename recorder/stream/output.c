@@ -362,7 +362,7 @@ void output_trim(struct output *output, uint64_t length)
 /* Gives whole pages that were sent back to the system. */
 static void release_sent(struct output *output, uint64_t from)
 {
-    uint64_t first = from / PAGE * PAGE, end = output->sent / PAGE * PAGE;
+    uint64_t first = from / SYSTEM_PAGE * SYSTEM_PAGE, end = output->sent / SYSTEM_PAGE * SYSTEM_PAGE;
     if (end > first)
         system_madvise(output->bytes + first, end - first, MADV_DONTNEED);
 }

@@ -1,6 +1,7 @@
 /* Where bytes go: a file that is mapped, or a descriptor that takes pieces.
 
-   Called: with the lock of the stream; output_lose in the handler of SIGBUS, which waits for none. */
+   Called: by the other files of stream/, in the thread that has the stream's lock, also in a handler, or that starts
+   the stream; output_lose by keeping.c in the handler of SIGBUS, which waits for none. */
 #ifndef ASANCOL_OUTPUT_H
 #define ASANCOL_OUTPUT_H
 

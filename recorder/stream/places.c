@@ -90,7 +90,7 @@ void record_too_late(bool is_bad)
         return;
     side_note_needed(atomic_load_explicit(&shared.seen_events, memory_order_relaxed) + 1);
     if (!is_hub())
-        recorder_say("not all is recorded: ", locked.trace.path, "a bad access came after its close");
+        recorder_say("incomplete: ", locked.trace.path, "a bad access came after the close");
 }
 
 /* Whether the place that was taken can be written; or whether there may be room for the record in another place. */
@@ -150,6 +150,7 @@ static void wait_for_room(uint64_t cursor, uint64_t end)
     }
 }
 
+/* Removes the obstacle to a place that is unusual, if it can. */
 static enum room make_room(uint64_t cursor, unsigned length, bool is_of_heap)
 {
     /* It was turned off just now, or went on in its next segment. */

@@ -1,5 +1,8 @@
-/* The places of records: what remains to be done where the fast path (record.h) finds something unusual. Any thread
-   calls these, at any time, also in a signal handler. */
+/* The places of records: what remains to be done where the fast path (record.h) finds something unusual.
+
+   Called: by record.h, regions.c, watched.c, findings.c and heap/freeing.c, in any thread, also in a handler. The
+   stream's lock is not held; it is taken here to make room, to end or to switch. `is_of_heap` says that the allocator's
+   is held. */
 #ifndef ASANCOL_PLACES_H
 #define ASANCOL_PLACES_H
 

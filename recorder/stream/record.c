@@ -1,6 +1,9 @@
-/* Ranges and regions, cut into records. writing.h, watched.c and regions.c write the bytes. */
+/* Ranges and regions, cut into records. writing.h, watched.c and regions.c write the bytes. Only a struct access is
+   kept, on the stack, while its pieces are recorded. */
 #include "stream/record.h"
 
+#include "base/memory.h"
+#include "environment/asan_options.h"
 #include "shadow/shadow.h"
 #include "stream/access.h"
 #include "stream/side.h"
@@ -17,6 +20,18 @@ __attribute__((noinline, cold)) void record_tell(enum code code, unsigned width,
     }
     above.tell(&told);
 }
+
+#if MEMORY_VARIES
+
+/* The upper byte may be a tag, which processors ignore. */
+void record_note_beyond(uint64_t address)
+{
+    struct known_page page = {0};
+    if (memory_is_there(&page, address & UINT64_MAX >> 8, 1))
+        side_note_skipped(SKIPPED_BEYOND);
+}
+
+#endif
 
 /* The widest access at an address that is a multiple of its width, in a range of this many bytes. */
 static unsigned piece_at(uint64_t address, uint64_t size)
@@ -48,8 +63,15 @@ void record_range(enum code code, uint64_t address, uint64_t size, uintptr_t cal
    may be that of a mistake. For the first one as many bytes are looked at as a block may have. */
 enum { MAX_PIECES = 64, MAX_LOOKS = 1 << 20 };
 
+/* Records the pieces of an access that the shadow flags. */
 static void record_bad_pieces(struct access *access, uint64_t address, uint64_t size)
 {
+#if MEMORY_VARIES
+    if (is_beyond(address, 1)) {
+        record_note_beyond(address);
+        return;
+    }
+#endif
     uint64_t bad = shadow_first_bad(address, size < MAX_REGION_SIZE ? size : MAX_REGION_SIZE);
     uint64_t skipped = bad / GRANULE * GRANULE > address ? bad / GRANULE * GRANULE - address : 0;
     unsigned width, pieces = 0;
@@ -75,7 +97,8 @@ void record_bad_range(enum code code, uint64_t address, uint64_t size, uintptr_t
 void record_bad_call(enum code code, uint64_t address, uint64_t size, uint64_t good, uintptr_t caller, const char *call)
 {
     struct access access = access_of(code, address, size, caller, call);
-    record_bad_pieces(&access, address + good, size - good);
+    if (call == NULL || asan_options_check_call(call))
+        record_bad_pieces(&access, address + good, size - good);
 }
 
 /* A poison is first in the shadow, and an unpoison first in the stream, as with blocks (paint.h). Outside the

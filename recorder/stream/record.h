@@ -1,6 +1,8 @@
 /* The recording of accesses, in code that is inlined where they are, and regions. writing.h says how.
 
-   Called: by compiled code and checks, in any thread, also in a handler; no lock. */
+   Called: by interface/, for the accesses of compiled code and of library calls, by calls/ and by heap/, in any thread,
+   also in a handler. No lock, unless something is unusual: then places.h and watched.h take the allocator's and the
+   stream's. */
 #ifndef ASANCOL_RECORD_H
 #define ASANCOL_RECORD_H
 
@@ -23,7 +25,7 @@
 /* Whether a bad access matters: the stream is on, or may turn on, or the process ends there. */
 static inline bool stream_may_record(const struct stream *stream)
 {
-    return (atomic_load_explicit(&stream->cursor, memory_order_relaxed) & CURSOR_ON)
+    return (atomic_load_explicit(&stream->cursor, memory_order_acquire) & CURSOR_ON)
            || !atomic_load_explicit(&stream->is_idle, memory_order_relaxed);
 }
 
@@ -32,6 +34,9 @@ static inline void halt_if_bad(enum code code, unsigned width, uint64_t address,
     if (UNLIKELY(atomic_load_explicit(&halt_is_on, memory_order_relaxed)) && shadow_is_bad(address, width))
         above.halt_at(code, width, address, caller, whole);
 }
+
+/* Notes that an access is not recorded for its address, if memory is there after all. */
+void record_note_beyond(uint64_t address) OWN_NAME(record_note_beyond);
 
 /* Tells the program of a bad piece of an access. */
 void record_tell(enum code code, unsigned width, uint64_t address, uintptr_t caller, const struct access *whole)
@@ -52,12 +57,18 @@ static inline void record_piece_of(enum code code, unsigned width, uint64_t addr
     unsigned code_and_width = code | width << 8;
     if (UNLIKELY(address > MEMORY_END - width))
         return; /* it can't be spelled, and would end the stream */
+#if MEMORY_VARIES
+    if (UNLIKELY(is_in_hole(address))) {
+        record_note_beyond(address);
+        return;
+    }
+#endif
     bool is_in_frame = is_frame_in_block(address, width);
     if (UNLIKELY(is_in_frame) && !above.has_frame((uintptr_t)__builtin_frame_address(0), address)) {
         side_note_skipped(SKIPPED_FRAMES);
         return;
     }
-    if (UNLIKELY(!(atomic_load_explicit(&stream->cursor, memory_order_relaxed) & CURSOR_ON)) && !stream_wake()) {
+    if (UNLIKELY(!(atomic_load_explicit(&stream->cursor, memory_order_acquire) & CURSOR_ON)) && !stream_wake()) {
         record_too_late(shadow_is_bad(address, width));
         halt_if_bad(code, width, address, caller, whole);
         return;

@@ -11,7 +11,7 @@
 
 static bool can_be_spelled(uint64_t address, uint64_t size)
 {
-    return size <= MAX_REGION_SIZE && address <= MEMORY_END - size;
+    return size <= MAX_REGION_SIZE && address <= MEMORY_END - size && !is_in_hole(address);
 }
 
 /* After a record is written. */
@@ -26,7 +26,7 @@ void record_region(enum code code, uint64_t address, uint64_t size)
     unsigned char *at = can_be_spelled(address, size) ? stream_reserve(REGION_LENGTH, code == CODE_MALLOC) : NULL;
     if (at == NULL)
         return;
-    put_number(at + 1, address);
+    put_number(at + 1, spelled(address));
     put_number(at + 9, size);
     put_code(at, code);
     look_at_clock();
@@ -38,7 +38,7 @@ static void put_poison(enum kind kind, uint64_t address, uint64_t size, bool is_
     if (at == NULL)
         return;
     at[1] = (unsigned char)kind;
-    put_number(at + 2, address);
+    put_number(at + 2, spelled(address));
     put_number(at + 10, size);
     put_code(at, CODE_POISON);
     look_at_clock();
@@ -68,10 +68,10 @@ void record_unused(uint64_t address, uint64_t size)
 
 void record_free(uint64_t address)
 {
-    unsigned char *at = address < MEMORY_END ? stream_reserve(FREE_LENGTH, true) : NULL;
+    unsigned char *at = address < MEMORY_END && !is_in_hole(address) ? stream_reserve(FREE_LENGTH, true) : NULL;
     if (at == NULL)
         return;
-    put_number(at + 1, address);
+    put_number(at + 1, spelled(address));
     put_code(at, CODE_FREE);
     look_at_clock();
 }
@@ -92,7 +92,7 @@ bool record_here(enum code code, uint64_t address, uint64_t size)
     unsigned char *at = reserve_here(code);
     if (at == NULL)
         return false;
-    put_number(at + 1, address);
+    put_number(at + 1, spelled(address));
     if (code != CODE_FREE)
         put_number(at + 9, size);
     put_code(at, code);
@@ -106,7 +106,7 @@ bool record_poison_here(enum kind kind, uint64_t address, uint64_t size)
     if (at == NULL)
         return false;
     at[1] = (unsigned char)kind;
-    put_number(at + 2, address);
+    put_number(at + 2, spelled(address));
     put_number(at + 10, size);
     put_code(at, CODE_POISON);
     if (kind == KIND_USER)

@@ -1,6 +1,8 @@
 /* Records of regions: blocks, and poison.
 
-   Called: blocks by the allocator, poison by the program: in any thread, also in a handler. */
+   Called: for blocks by heap/ with the allocator's lock (all, heap/blocks.h), for poison by record.c and stating.c
+   without it, in any thread, also in a handler. No lock here: a record takes its place by an addition (writing.h).
+   Past the limit of events places.c takes the locks for a new segment. */
 #ifndef ASANCOL_REGIONS_H
 #define ASANCOL_REGIONS_H
 
@@ -15,6 +17,7 @@ void record_region(enum code code, uint64_t address, uint64_t size);
 void record_poison(enum kind kind, uint64_t address, uint64_t size);
 /* Memory of the allocator that is poison, of any size. */
 void record_unused(uint64_t address, uint64_t size);
+/* A free of a block. */
 void record_free(uint64_t address);
 /* A malloc, a free or an unpoison, and a poison, in the allocator's memory, of a size that can be spelled. It is
    recorded in the segment that there is now, or not at all, and then it answers false. The heap is locked. */

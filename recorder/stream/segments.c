@@ -1,3 +1,4 @@
+/* `files` has of each of the newest segments which file it is: so none is removed that has only its name. */
 #define _GNU_SOURCE
 #include "stream/segments.h"
 

@@ -1,4 +1,7 @@
-/* The files of the segments of a process: their names, and which of them are kept. The lock of the stream is held. */
+/* The files of the segments of a process: their names, and which of them are kept.
+
+   Called: segments_begin by opening.c, the rest by switching.c, in the thread that starts or switches. Lock: the
+   stream's; at the start there is no other thread in it. */
 #ifndef ASANCOL_SEGMENTS_H
 #define ASANCOL_SEGMENTS_H
 

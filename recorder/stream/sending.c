@@ -79,6 +79,13 @@ void sending_try(void)
     side_end_calls(calls);
 }
 
+void stream_hang_up(void)
+{
+    if (is_hub() && stream_state() != STATE_RECORDING && !output_is_closed(&locked.trace))
+        system_call3(SYS_shutdown, locked.trace.descriptor, SHUT_WR, 0);
+}
+
+/* Sends the whole records, if the lock is free; at an exit it is waited for. */
 static void send_now(bool is_closing)
 {
     /* A child of vfork may have closed the descriptor for itself. */

@@ -1,6 +1,8 @@
 /* What a socket or a pipe is given, before the end.
 
-   Called: sending_push with the lock of the stream; the rest after a record, in any thread, also in a handler. */
+   Called: sending_begin by opening.c and sending_push by growing.c, with the stream's lock; the rest by watched.c,
+   regions.c and process/process.c after a record, in any thread, also in a handler, without it: they take it if it is
+   free, and wait a while for it at an exit alone. sending_try by growing.c too. */
 #ifndef ASANCOL_SENDING_H
 #define ASANCOL_SENDING_H
 
@@ -8,8 +10,7 @@
 
 /* A stream begins, of which nothing was sent but its header. */
 void sending_begin(void);
-/* Gives it the whole pieces, as far as it takes them, or everything. Answers null, or what went wrong. The lock is
-   held. */
+/* Gives it the whole pieces, as far as it takes them, or everything. Answers null, or what went wrong. */
 const char *sending_push(bool all);
 /* Whether the process has closed the descriptor, so that it is better to go on in another segment now; for a
    free, with the allocator in order, or for an access. */
@@ -19,5 +20,7 @@ bool sending_is_cut(bool is_of_heap);
 void sending_try(void);
 /* After a record: gives a socket what there is, if it is time for it; or at once, but only so often. */
 void stream_look_at_clock(bool at_once);
+/* Nothing more comes of a stream that has ended: the hub need not wait for the end of the process. */
+void stream_hang_up(void);
 
 #endif

@@ -272,7 +272,7 @@ bool side_back(const struct side_part *part, bool has_place)
     bool is_of_segment = part->window == locked.window;
     const char *why = is_of_segment ? output_back(&locked.side, part->offset, part->length) : NULL;
     if (why != NULL && !atomic_exchange(&shared.is_side_full, true))
-        recorder_say("no more is kept beside the trace: ", locked.side.path, why);
+        recorder_say("no more data are kept beside the trace: ", locked.side.path, why);
     bool is_backed = is_of_segment && why == NULL;
     if (is_backed)
         atomic_fetch_or(part->bits, part->bit);
@@ -371,6 +371,7 @@ void side_note_snapshot(uint64_t events)
         progress_in(side)->stated = events;
 }
 
+/* Adds one, for any thread. */
 static void count_up(uint64_t *number)
 {
 #if HAS_ADDITION_ALONE

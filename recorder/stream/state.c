@@ -50,7 +50,7 @@
 #include "base/system.h"
 #include "stream/locked.h"
 
-union stream_page stream_page __attribute__((aligned(PAGE)));
+union stream_page stream_page __attribute__((aligned(MOST_PAGE)));
 
 struct plan plan;
 struct shared shared;

@@ -6,8 +6,9 @@
      later one, reads it without the lock.
    - `locked` (locked.h): only who has the lock of the stream.
 
-   A thread that holds the lock has all signals blocked, except SIGBUS, and is not cancelled. README.md has the order
-   of all locks: this is the last. */
+   Called: by any file, in any thread, also in a handler, as each function says. Who takes the lock by stream_lock, or
+   the two beside it, gives it back by stream_unlock; meanwhile all signals are blocked, except SIGBUS, and it is not
+   cancelled. So a handler may wait for it. README.md has the order of all locks: this is the last. */
 #ifndef ASANCOL_STATE_H
 #define ASANCOL_STATE_H
 
@@ -59,7 +60,7 @@ struct stream {
 /* Alone in its page, which is all zeros in a child after any kind of fork: there it is off. */
 extern union stream_page {
     struct stream stream;
-    unsigned char page[PAGE];
+    unsigned char page[MOST_PAGE];
 } stream_page OWN_NAME(stream_page);
 
 #define STREAM (&stream_page.stream)
@@ -181,9 +182,10 @@ static inline uint64_t held_by_checker(uint64_t bound)
 
 enum state stream_state(void);
 
+/* Whoever sees it on sees also all earlier stores: whether faults are noted, and where. */
 static inline bool is_on(void)
 {
-    return (atomic_load_explicit(&STREAM->cursor, memory_order_relaxed) & CURSOR_ON) != 0;
+    return (atomic_load_explicit(&STREAM->cursor, memory_order_acquire) & CURSOR_ON) != 0;
 }
 
 /* UNSTARTED to STARTING. False: that was done. */
@@ -212,7 +214,7 @@ void stream_unlock(void);
 enum patience { NONE, SHORT, LONG };
 /* Takes the lock if it is free, or if it comes free by then. */
 bool stream_lock_at_once(void);
-bool stream_lock_within(enum patience patience);
+bool stream_lock_within(enum patience patience); /* with NONE never */
 /* Waits a little, the longer the more often this thread has looked. Nobody is cancelled here. */
 void stream_rest(int looks);
 /* The same, if there was not enough of it. */

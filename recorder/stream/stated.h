@@ -1,6 +1,7 @@
 /* What the stream states of memory outside the allocator's. stating.c brings it up to the shadow.
 
-   Called: at any time, also in a handler; no lock. */
+   Called: is_stated by record.h and watched.c, in any thread, also in a handler; no lock: bytes are atomic.
+   stated_forget by switching.c with the stream's lock. */
 #ifndef ASANCOL_STATED_H
 #define ASANCOL_STATED_H
 

@@ -1,4 +1,4 @@
-/* What the stream states of memory outside the allocator's: brought up to the shadow when an access comes to it. */
+/* A byte of `stated` for each granule (shadow.h): what the stream states of it, or that a thread is bringing it up. */
 #include "stream/stating.h"
 
 #include "shadow/shadow.h"
@@ -36,25 +36,38 @@ static bool is_busy(unsigned char stated)
     return stated >= STATED_BUSY && stated < STATED_BUSY + BUSY_NUMBERS;
 }
 
-/* Records what gives a granule its new byte. One record is enough from any state; where the state is not known, since
-   a thread was interrupted here, three. The class of a bad access to the last bytes of a granule is read from the
-   next one, so those get its kind. */
-static void record_change(uint64_t granule, unsigned char before, unsigned char now)
+/* What gives a granule its new byte: an unpoison of its first bytes, then poison of the last ones. */
+struct change {
+    unsigned unpoisoned;    /* how many bytes, or 0 */
+    unsigned poisoned_from; /* this byte on, or GRANULE: none */
+    enum kind kind;
+};
+
+/* Decided by bytes alone. One record is enough from any state; where the state is not known, since a thread was
+   interrupted here, three. The class of a bad access to the last bytes of a granule is read from the next one, so those
+   get its kind. */
+static struct change change_to(unsigned char before, unsigned char now, unsigned char next)
 {
     unsigned had = addressable_of(before), has = addressable_of(now);
-    bool is_unknown = is_busy(before);
-    if (has == 0) {
-        if (had != 0 || is_unknown || kind_of(before) != kind_of(now))
-            record_poison(kind_of(now), granule, GRANULE);
-    } else if (has < GRANULE && (had > has || is_unknown)) {
-        unsigned char next = *shadow_of(granule + GRANULE);
-        enum kind kind = addressable_of(next) == 0 ? kind_of(next) : KIND_USER;
-        if (is_unknown)
-            record_region(CODE_UNPOISON, granule, GRANULE);
-        record_poison(kind, granule + has, GRANULE - has);
-    } else {
-        record_region(CODE_UNPOISON, granule, has);
-    }
+    bool is_unknown = is_busy(before), is_other = had != 0 || is_unknown || kind_of(before) != kind_of(now);
+    enum kind kind_of_end = addressable_of(next) == 0 ? kind_of(next) : KIND_USER;
+    if (has == 0)
+        return (struct change){0, is_other ? 0 : GRANULE, kind_of(now)};
+    if (has < GRANULE && (had > has || is_unknown))
+        return (struct change){is_unknown ? GRANULE : 0, has, kind_of_end};
+    return (struct change){has, GRANULE, KIND_USER};
+}
+
+static void record_change(uint64_t granule, unsigned char before, unsigned char now)
+{
+    unsigned has = addressable_of(now);
+    bool has_next = has != 0 && has < GRANULE && granule + GRANULE < MEMORY_END;
+    unsigned char next = has_next ? *shadow_of(granule + GRANULE) : 0;
+    struct change change = change_to(before, now, next);
+    if (change.unpoisoned != 0)
+        record_region(CODE_UNPOISON, granule, change.unpoisoned);
+    if (change.poisoned_from != GRANULE)
+        record_poison(change.kind, granule + change.poisoned_from, GRANULE - change.poisoned_from);
 }
 
 /* Makes the stream state of a granule what its shadow byte says, and returns that byte. The record has its place in the

@@ -1,4 +1,7 @@
-/* What the stream states of memory outside the allocator's, brought up to the shadow. At any time. */
+/* What the stream states of memory outside the allocator's, brought up to the shadow.
+
+   Called: by watched.c, in the thread whose access comes to that memory, also in a handler. No lock: a thread has a
+   granule for itself by one compare-and-swap, and who comes to it waits for a while, and then goes on in its place. */
 #ifndef ASANCOL_STATING_H
 #define ASANCOL_STATING_H
 

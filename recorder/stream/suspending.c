@@ -1,3 +1,4 @@
+/* One flag beside the state: whether it was this that has left RECORDING. */
 #include "stream/suspending.h"
 
 #include "stream/ending.h"
@@ -9,15 +10,17 @@
 /* The lock of the stream is held. If the stream was lost meanwhile, its state is another one. */
 static bool is_suspended;
 
-bool stream_suspend(void)
+bool stream_suspend(uint64_t generation)
 {
     stream_lock();
+    locked.generation = generation;
     uint64_t cursor = state_leave(STATE_SUSPENDED);
     is_suspended = (cursor & CURSOR_ON) != 0;
     if (is_suspended) {
         enum finish finish = ending_of(cursor, is_file() ? FINISH_CLOSED : FINISH_OPEN);
         ending_at((uint32_t)cursor, plan.settings->limit, finish, ENDING_EXEC, 0);
     }
+    locked.generation = 0;
     stream_unlock();
     return is_suspended;
 }

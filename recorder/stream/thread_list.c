@@ -52,6 +52,7 @@ static void put_name(struct side_thread *entry, const uint64_t *name)
         atomic_store(&words[i], name[i]);
 }
 
+/* Fills the entry of a thread; its system number goes last, by which it is whole. */
 static void fill_thread(struct list *list, uint32_t at, unsigned number, uint32_t creator)
 {
     struct side_thread *entry = thread_at(list, at);

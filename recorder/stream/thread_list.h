@@ -1,6 +1,7 @@
 /* The list of threads that faults name. An entry is taken by its number, and then filled by whoever has taken it.
 
-   Called: at any time, also in a handler; no lock. */
+   Called: list_put_thread by fault_list.c and faults.c, list_name_thread by the check of pthread_setname_np, in any
+   thread, also in a handler. No lock: whose number stands in an entry was settled by one compare-and-swap. */
 #ifndef ASANCOL_THREAD_LIST_H
 #define ASANCOL_THREAD_LIST_H
 

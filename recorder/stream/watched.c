@@ -76,7 +76,7 @@ static bool put_access_in_time(unsigned char *at, unsigned code_and_width, uint6
     if (!is_in_time(at))
         return false;
     put_byte(at + 1, (unsigned char)(code_and_width >> 8));
-    put_number_by_bytes(at + 2, address);
+    put_number_by_bytes(at + 2, spelled(address));
     return put_code_in_time(at, code_and_width & 0xff);
 }
 
@@ -84,7 +84,7 @@ static bool put_free_in_time(unsigned char *at, uint64_t address)
 {
     if (!is_in_time(at))
         return false;
-    put_number_by_bytes(at + 1, address);
+    put_number_by_bytes(at + 1, spelled(address));
     return put_code_in_time(at, CODE_FREE);
 }
 
@@ -194,7 +194,7 @@ void record_watched_access(unsigned code_and_width, uint64_t address, uintptr_t 
 void record_bad_free(uint64_t address, uintptr_t caller, const char *call)
 {
     struct access access = access_of(CODE_FREE, address, 0, caller, call);
-    if (address >= MEMORY_END)
+    if (address >= MEMORY_END || is_in_hole(address))
         return;
     if (!is_on() && !stream_wake()) {
         record_too_late(true);

@@ -1,3 +1,4 @@
+/* Two ranges of addresses, one for streams and one for what stands beside them, each of WINDOWS windows. */
 #define _GNU_SOURCE
 #include "stream/windows.h"
 
@@ -45,6 +46,6 @@ bool windows_mend(const void *address)
 {
     if (!is_in(streams, WINDOW_SHIFT, address) && !is_in(sides, SIDE_WINDOW_SHIFT, address))
         return false;
-    void *page = (void *)((uintptr_t)address / PAGE * PAGE);
-    return system_mmap(page, PAGE, PROT_READ | PROT_WRITE, MAP_PRIVATE | MAP_ANONYMOUS | MAP_FIXED, -1, 0) > 0;
+    void *page = (void *)((uintptr_t)address / SYSTEM_PAGE * SYSTEM_PAGE);
+    return system_mmap(page, SYSTEM_PAGE, PROT_READ | PROT_WRITE, MAP_PRIVATE | MAP_ANONYMOUS | MAP_FIXED, -1, 0) > 0;
 }

@@ -2,7 +2,8 @@
    offset of a record counts from the start of the range, so it says of which stream the record is. A late store, by a
    thread that slept, meets plain memory, and not the stream that has come after.
 
-   Called: windows_mend in the handler of SIGBUS; the rest with the lock of the stream, or before there is one. */
+   Called: windows_mend by keeping.c, in the handler of SIGBUS, in any thread, without a lock; window_of anywhere. The
+   rest by opening.c and switching.c, with the stream's lock, or before there is a stream. */
 #ifndef ASANCOL_WINDOWS_H
 #define ASANCOL_WINDOWS_H
 

@@ -5,7 +5,10 @@
    Then the bytes are stored, the code last: a zero where a code should be is a record that is not written yet.
 
    So there is no lock that a signal handler could meet, and a handler that comes between the two steps records what it
-   does in its own places. */
+   does in its own places.
+
+   Called: by record.h, regions.c, watched.c and places.c, in the thread whose record it is, also in a handler; no lock.
+   put_code and put_number also by keeping.c, with the stream's lock, for what stands at the end. */
 #ifndef ASANCOL_WRITING_H
 #define ASANCOL_WRITING_H
 
@@ -16,6 +19,7 @@
 #include "base/platform.h"
 #include "libc/library.h"
 #include "common/format.h"
+#include "shadow/shadow.h"
 #include "stream/state.h"
 
 /* Adds to the cursor, and says what it was. */
@@ -66,7 +70,7 @@ static inline void put_code(unsigned char *at, enum code code)
 static inline void put_access(unsigned char *at, unsigned code_and_width, uint64_t address)
 {
     at[1] = (unsigned char)(code_and_width >> 8);
-    put_number(at + 2, address);
+    put_number(at + 2, spelled(address));
     put_code(at, code_and_width & 0xff);
 }
 

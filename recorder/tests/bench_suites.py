@@ -143,7 +143,8 @@ def main(argv: Optional[List[str]] = None) -> int:
     if options.rounds < 1:
         reader.error("at least one round")
     compiler = found[options.compiler]
-    programs = [it for it in real.chosen(options.names, [*MORE, *real.PROGRAMS]) if not it.crate]
+    among = [*MORE, *real.PROGRAMS, *real.OF_PROCESSES]
+    programs = [it for it in real.chosen(options.names, among) if not it.crate]
     real.fetch(programs)
     print(f"{'program':<12}{'sanitizer':>10}{'lean':>8}{'in all':>8}{'full':>8}{'in all':>8}"
           f"{'MB san.':>8}{'lean':>8}{'full':>8}{'build':>9}{'ours':>7}", flush=True)

@@ -211,7 +211,7 @@ def check_lacking_checks(suite, folder, compiler):
     them that it was checked. The last one holds."""
     made = Builder(suite, folder, compiler)
     write(folder, words_rsp=f"{LACKING[compiler.name][0]}\n", list_txt="fun:helper\n")
-    text = "what is compiled with this lacks checks: what they would find is not recorded"
+    text = "code compiled with this option lacks checks, and misses some bad accesses"
     for words in LACKING[compiler.name]:
         named = words.replace("--param=", "--param ").replace("-Xclang ", "")
         made.cc("-c", "-DVALUE=1", "helper.c", *words.split(), warning=f"{named}: {text}")
@@ -325,13 +325,13 @@ def check_kinds(suite, folder, compiler):
         made.link("-DVALUE=1", "main.c", "helper.c", command=command)
     # Words of the compiler's own are looked at too.
     foreign = ["-c", "-DVALUE=1", "helper.c"]
-    made.cc(*foreign, command=f"{name} -m32", warning="-m32: with this nothing is recorded")
-    warning = "-fsanitize=thread: remove it: with this nothing is recorded"
+    made.cc(*foreign, command=f"{name} -m32", warning="-m32: nothing is recorded with this option")
+    warning = "-fsanitize=thread: remove it: nothing is recorded with this option"
     made.cc(*foreign, command=f"{name} -fsanitize=thread", warning=warning)
     if name == "clang":
         made.cc(*foreign, "-fsanitize=safe-stack", warning=warning.replace("thread", "safe-stack"))
     unknown = script(folder, "unknown", f'[ "$1" = --version ] || exec {name} "$@"')
-    warning = f"{unknown}: neither GCC nor Clang by its --version: what it compiles is not recorded"
+    warning = f"{unknown}: neither GCC nor Clang by its --version: its code is not recorded"
     made.cc("-c", "main.c", command=unknown, warning=warning)
 
 
@@ -353,7 +353,7 @@ def check_own_flag(suite, folder, compiler):
     for flags in (["@flags"], ["-fsanitize=address,undefined"]):
         made.cc(*flags, "-S", "wide.c")
         expect("__ubsan_handle_shift_out_of_bounds" in made.text_of("wide.s"), True, f"{flags}")
-    refused = "-fno-sanitize=address: what is compiled with this is not recorded"
+    refused = "-fno-sanitize=address: code compiled with this option is not recorded"
     made.cc("-fsanitize=address", "-fno-sanitize=address", "-DVALUE=1", "-c", "helper.c", warning=refused)
 
 
@@ -382,7 +382,7 @@ def check_not_asked(suite, folder, compiler):
         silent = f"{folder}/silent"
         if text != "nothing":
             made.link("-DVALUE=1", "main.c", "helper.c", command=silent)
-    warning = f"{silent}: neither GCC nor Clang by its --version: what it compiles is not recorded"
+    warning = f"{silent}: neither GCC nor Clang by its --version: its code is not recorded"
     made.cc("-c", "main.c", command=silent, warning=warning)
 
 

@@ -29,9 +29,10 @@ the call are recorded before that. Reads and writes after the call count as far 
 about that. Output is checked before the call and recorded after it.
 
 A string that a function takes is checked up to its end, as by AddressSanitizer with `strict_string_checks`. But if it
-is searched or compared, or has a number (`strtol`, `atoi`), only the part that is read counts; for `%9s` of `scanf` the
-part that is stored. Not checked in formats are conversions after a position (`%1$s`) or after one that the program has
-registered, `%ls` with a precision, and a `%n` of `scanf` after its last value and other text than blanks.
+is searched or compared, or has a number (`strtol`, `atoi`), only the part that is read counts, unless that option is
+set; of wide strings in any case. For `%9s` of `scanf` it is the part that is stored. Not checked in formats are
+conversions after a position (`%1$s`) or after one that the program has registered, `%ls` with a precision, and a `%n`
+of `scanf` after its last value and other text than blanks.
 
 Other functions are not recorded. Of these AddressSanitizer checks XDR, `crypt`, `tmpnam`, `tempnam`, and further
 requests of `ioctl`. `exec` and its like are recorded, but not listed: the path, the arguments and the environment.
@@ -117,6 +118,7 @@ def code(text: str) -> str:
     if within:
         return f"at most `{split(within.group(1))[1]}`"
     text = re.sub(r"\(size_t\)|\(const char \*\)", "", text)
+    text = re.sub(r"^COMPARED\(.*, (\w+)\)$", r"\1", text)
     return f"`{text.replace('LEAST(', 'least(').replace('head.', 'message->')}`"
 
 
@@ -146,8 +148,8 @@ def statement(text: str) -> str:
     if word == "MOVES":
         to, start, size = arguments
         return f"{bytes_of('reads', start, size)}; {bytes_of('writes', to, size)}"
-    if word in ("READS", "WRITES"):
-        return bytes_of(word.lower(), arguments[0], arguments[1])
+    if word in ("READS", "WRITES", "READS_TEXT"):
+        return bytes_of(word.partition("_")[0].lower(), arguments[0], arguments[1])
     if word in ("READS_ARRAY", "WRITES_ARRAY") and "wcslen" in arguments[1]:
         return bytes_of(word.partition("_")[0].lower(), arguments[0], arguments[1])
     if word in MEANINGS:

@@ -276,7 +276,7 @@ COPY = """
 #include <string.h>
 int main(void) { char *p = malloc(8); memcpy(p, "12345678", (size_t)atoi("9")); free(p); return 0; }
 """
-NO_CALLS = "calls of the C library (-static)"
+NO_CALLS = "calls to the C library (-static)"
 
 
 def check_static(suite: Suite, folder: str, compiler: Compiler) -> None:
@@ -553,6 +553,38 @@ def check_told(suite: Suite, folder: str, compiler: Compiler, argv: Sequence[str
                lines)
 
 
+UNCALLED = """
+#include <setjmp.h>
+#include <signal.h>
+#include <stdio.h>
+#include <stdlib.h>
+static int told;
+static sigjmp_buf back;
+static char room[64];
+void __asan_on_error(void) { told++; }
+static void on_fault(int number) { siglongjmp(back, 1); }
+int main(void)
+{
+    signal(SIGSEGV, on_fault);
+    for (volatile int i = 0; i < 3; i++)
+        if (sigsetjmp(back, 1) == 0)
+            __asm__ volatile("and $-16, %%rsp; push $0; jmp *%1" : : "D"(room + 16), "r"(free) : "memory");
+    printf("%d", told);
+    return 0;
+}
+"""
+
+
+def check_told_uncalled(suite: Suite, folder: str, compiler: Compiler) -> None:
+    """A report at a function that nothing has called is told once, too."""
+    with open(f"{folder}/uncalled.c", "w", encoding="utf-8") as file:
+        file.write(UNCALLED)
+    compiler.c(folder, ["uncalled.c"], f"{folder}/uncalled", "-w", "-O0", "-fno-builtin")
+    ran = run(["./uncalled"], folder, ASANCOL_TRACE="t.trace")
+    expect((ran.returncode, ran.stdout), (0, b"1"), "what it prints")
+    expect(len(reports(suite.asancol, f"{folder}/t.trace")[1]), 3, "reports")
+
+
 GROWING = """
 #include <stdlib.h>
 #include <sanitizer/common_interface_defs.h>
@@ -594,6 +626,7 @@ def sound_tests(suite: Suite, compiler: Compiler) -> None:
         ways: List[List[str]] = [[], ["double"], ["bad"]]
         for argv in ways:
             suite.test(f"{compiler} interface: told of reports {' '.join(argv)}", check_told, compiler, argv)
+    suite.test(f"{compiler} interface: told where nothing called", check_told_uncalled, compiler)
     suite.test(f"{compiler} growing container", check_growing, compiler)
     suite.test(f"{compiler} interface: hooks and other names", check_asked_for, compiler)
 
@@ -611,15 +644,15 @@ def expect_said(said: Sequence[str], *pieces: str) -> None:
 def check_settings(suite: Suite, folder: str, program: str) -> None:
     """An unknown setting, or an invalid value, is named once, and the program goes on."""
     for settings, pieces in (
-        ({"ASANCOL_TRCE": "t.trace"}, ["ASANCOL_TRCE: there is no such setting; did you mean ASANCOL_TRACE?"]),
-        ({"ASANCOL_NOTHING_LIKE_IT": ""}, ["ASANCOL_NOTHING_LIKE_IT: there is no such setting"]),
-        ({"ASANCOL_": "1"}, ["ASANCOL_: there is no such setting"]),
-        ({"ASANCOL_WHERE": "yes"}, ["ASANCOL_WHERE: yes is not a number from 0 to 1, and 0 holds"]),
-        ({"ASANCOL_LIMIT": "0"}, ["ASANCOL_LIMIT: 0 is not a number from 1 to 16777216, and 16777216 holds"]),
-        ({"ASANCOL_SEGMENTS": "1001"}, ["ASANCOL_SEGMENTS: 1001 is not a number from 0 to 1000, and all are kept"]),
-        ({"ASANCOL_LIMIT": "99999999999999999999"}, ["ASANCOL_LIMIT: 99999999999999999999 is not a number"]),
-        ({"ASANCOL_QUARANTINE": "1M"}, ["ASANCOL_QUARANTINE: 1M is not a number from 0 to 1099511627776"]),
-        ({"ASANCOL_PATIENCE": "-1"}, ["ASANCOL_PATIENCE: -1 is not a number from 0 to 86400, and 60 holds"]),
+        ({"ASANCOL_TRCE": "t.trace"}, ["ASANCOL_TRCE: unknown setting; did you mean ASANCOL_TRACE?"]),
+        ({"ASANCOL_NOTHING_LIKE_IT": ""}, ["ASANCOL_NOTHING_LIKE_IT: unknown setting"]),
+        ({"ASANCOL_": "1"}, ["ASANCOL_: unknown setting"]),
+        ({"ASANCOL_WHERE": "yes"}, ["ASANCOL_WHERE: 'yes' is not a number (0 to 1), so 0 applies"]),
+        ({"ASANCOL_LIMIT": "0"}, ["ASANCOL_LIMIT: '0' is not a number (1 to 16777216), so 16777216 applies"]),
+        ({"ASANCOL_SEGMENTS": "1001"}, ["ASANCOL_SEGMENTS: '1001' is not a number (0 to 1000), so all are kept"]),
+        ({"ASANCOL_LIMIT": "99999999999999999999"}, ["ASANCOL_LIMIT: '99999999999999999999' is not a number"]),
+        ({"ASANCOL_QUARANTINE": "1M"}, ["ASANCOL_QUARANTINE: '1M' is not a number (0 to 1099511627776)"]),
+        ({"ASANCOL_PATIENCE": "-1"}, ["ASANCOL_PATIENCE: '-1' is not a number (0 to 86400), so 60 applies"]),
         ({"ASANCOL_WHERE": "", "ASANCOL_LIMIT": "", "ASANCOL_LOG": ""}, ()),
         ({"ASANCOL_CC": "gcc", "ASANCOL_CXX": "g++", "ASANCOL_REPORT": "r", "ASANCOL_SYMBOLIZER": "addr2line"}, ()),
     ):
@@ -640,11 +673,11 @@ def check_log(suite: Suite, folder: str, program: str) -> None:
         ran = run([program, "many_events"], folder, **settings)
         expect((ran.returncode, ran.stderr), (0, b""), "with a log")
     with open(f"{folder}/log", "rb") as file:
-        expect_said(lines_of(file.read()), *["further events left out"] * 2)
+        expect_said(lines_of(file.read()), *["events beyond the limit are missing"] * 2)
     run([program, "many_events"], folder, **{**settings, "ASANCOL_LOG": "log.%p"})
     expect(len(glob.glob(f"{folder}/log.[0-9]*")), 1, "a log with the number of the process")
     ran = run([program, "many_events"], folder, **{**settings, "ASANCOL_LOG": "none/log"})
-    expect_said(lines_of(ran.stderr), "the log can't be opened: ", "further events left out")
+    expect_said(lines_of(ran.stderr), "the log can't be opened: ", "events beyond the limit are missing")
 
 
 def check_other_folder(suite: Suite, folder: str, program: str) -> None:

@@ -355,7 +355,7 @@ def check_forks_in_handlers(suite: Suite, folder: str, lives: str) -> None:
     lost = [peer for peer in peers if peer.side().ending == LOST]
     lines = said.decode().splitlines()
     expect((len(peers), len(lines)), (51, len(lost)), said)
-    expect([line for line in lines if "it came in the middle of an allocation" not in line], [], "lines")
+    expect([line for line in lines if "it interrupted the allocator" not in line], [], "lines")
     expect([peer.trace().is_closed for peer in lost], [False] * len(lost), "their closes")
     for peer in peers:
         if peer not in lost:

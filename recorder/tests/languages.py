@@ -387,7 +387,7 @@ int main(string[] words)
     return 0;
 }
 """
-LACKS = "--param asan-globals=0: what is compiled with this lacks checks: what they would find is not recorded"
+LACKS = "--param asan-globals=0: code compiled with this option lacks checks, and misses some bad accesses"
 
 
 def check_d(suite: Suite, folder: str) -> None:

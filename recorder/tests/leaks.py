@@ -367,7 +367,7 @@ def check_stuck(suite: Suite, folder: str, compiler: Compiler) -> None:
         expect((ran.returncode, ran.stderr.decode()), (7, said), how)
         expect(how == "vfork" or time.monotonic() - began < 3, True, "one that sleeps with its signals blocked is seen")
         expect((lost_in(f"{folder}/{how}.trace"), side_of(f"{folder}/{how}.trace").leaks_missed), (NOTHING, 1), how)
-        for leaks, status, text in (("yes", 3, "INCOMPLETE: leaks of it were not looked for, "),
+        for leaks, status, text in (("yes", 3, "INCOMPLETE: its leaks were not looked for, "),
                                     ("summary", 0, "asancol: leaks of a process were not looked for, ")):
             ran = run([REPORT, f"--leaks={leaks}", "--trace", f"{how}.trace"], folder, ASANCOL=suite.asancol)
             expect((ran.returncode, text in ran.stdout.decode()), (status, True), ran.stdout.decode())

@@ -149,7 +149,7 @@ def check_preloaded(suite: Suite, folder: str, compiler: Compiler) -> None:
     said."""
     write(folder, small_c=SMALLEST, opens_c=OPENS, library_c=LIBRARY)
     compiler.c(folder, ["library.c"], "library.so", "-fPIC", "-shared", "-fno-builtin", native=True)
-    said = "calls of libraries (the link knew of none)"
+    said = "calls by libraries (none known at link time)"
     for source, faults, lines in (("small.c", 0, [said]), ("opens.c", 1, [])):
         compiler.c(folder, [source], "program")
         run(["./program"], folder, ASANCOL_TRACE="t.trace", ASANCOL_WHERE="1", LD_PRELOAD="./library.so")

@@ -161,7 +161,7 @@ def check_setting(suite: Suite, folder: str, compiler: Compiler) -> None:
         expect(run(["./program"], folder, ASANCOL_HALT="1").returncode, -6, "to end at the first fault")
     ran = run(["./program"], folder, ASANCOL_TRACE="t.trace", ASANCOL_USE_AFTER_RETURN="2")
     expect(ran.stderr.decode(),
-           "asancol: ignored: ASANCOL_USE_AFTER_RETURN: 2 is not a number from 0 to 1, and 1 holds\n")
+           "asancol: ignored: ASANCOL_USE_AFTER_RETURN: '2' is not a number (0 to 1), so 1 applies\n")
 
 
 WITHOUT = """

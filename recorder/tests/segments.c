@@ -142,7 +142,7 @@ static void many_live(int rounds, int unused)
         hide(malloc(8));
 }
 
-/* So many live blocks that only a part of the freed ones fit into a snapshot with them. */
+/* Enough live blocks that only a part of the freed ones fit into a snapshot with them. */
 static void live_and_held(int rounds, int live)
 {
     for (int i = 0; i < live; i++)

@@ -1,6 +1,7 @@
 /* What the recorder's shadow says and becomes, beside crates/asan_shades, which proves that it is what the collector
    makes of the events: accesses by each shadow byte that a granule may have, all small regions and blocks on small
-   memory, and drawn ones. A region is clean if no access to one of its bytes is bad.
+   memory, and drawn ones. A region is clean if no access to one of its bytes is bad. And the statement of a granule
+   outside blocks, from each byte before to each byte now, makes the collector's byte that of the shadow.
    Prints how many answers were compared, and the first that differ; the status is 1 if one does. */
 #define _GNU_SOURCE
 #include <stdbool.h>
@@ -16,6 +17,7 @@ static unsigned char memory[MOST_GRANULES + 64];
 #include "shadow/shadow.c"
 
 #include "heap/paint.h"
+#include "stream/stating.c"
 
 bool asan_shades_is_bad(uint8_t shadow, uint64_t at, uint8_t width);
 uint8_t asan_shades_poisoned(uint8_t code, uint64_t at, uint64_t end, uint8_t shadow, uint64_t granule);
@@ -107,6 +109,60 @@ static void compare_block(const unsigned char *before, size_t count, uint64_t at
     }
 }
 
+/* ---- the statement of a granule, number 1 */
+
+union stream_page stream_page;
+/* What the collector has there. */
+static uint8_t stated_byte;
+
+void record_region(enum code code, uint64_t address, uint64_t size)
+{
+    if (code == CODE_UNPOISON)
+        stated_byte = asan_shades_unpoisoned(address, address + size, stated_byte, 1);
+}
+
+/* A poison's code in the collector. */
+static uint8_t code_of(enum kind kind)
+{
+    return kind == KIND_USER ? SHADE_USER : kind == KIND_GLOBAL ? SHADE_GLOBAL : 0xf2;
+}
+
+void record_poison(enum kind kind, uint64_t address, uint64_t size)
+{
+    stated_byte = asan_shades_poisoned(code_of(kind), address, address + size, stated_byte, 1);
+}
+
+/* A byte of the recorder's as the collector has it. */
+static uint8_t as_stated(unsigned char shade)
+{
+    return addressable_of(shade) != 0 ? shade : code_of(kind_of(shade));
+}
+
+static bool is_shade(unsigned shade)
+{
+    return shade < GRANULE || shade >= 0x80;
+}
+
+/* From any byte if the one before is not known. */
+static void compare_change(unsigned char before, unsigned char now)
+{
+    for (unsigned i = 0; i < (is_busy(before) ? SHADES : 1); i++) {
+        stated_byte = as_stated(is_busy(before) ? shades[i] : before);
+        record_change(GRANULE, before, now);
+        compare("stated", GRANULE, GRANULE, 1, as_stated(now), stated_byte);
+    }
+}
+
+static void compare_changes(void)
+{
+    for (unsigned before = 0; before < 256; before++)
+        for (unsigned now = 0; now < 256; now++)
+            for (unsigned next = 0; next < SHADES && is_shade(before) && is_shade(now); next++) {
+                memory[2] = shades[next];
+                compare_change((unsigned char)before, (unsigned char)now);
+            }
+}
+
 static void compare_small_blocks(void)
 {
     enum { COUNT = 64, ROOM = COUNT * GRANULE };
@@ -160,6 +216,7 @@ int main(void)
     compare_accesses();
     compare_small_regions();
     compare_small_blocks();
+    compare_changes();
     compare_drawn_checks();
     compare_drawn();
     printf("%lu of %lu answers differ from the proved ones\n", differ, compared);

@@ -32,7 +32,7 @@ AT_THE_START_OR_END = {
     "leaks/leaks.o": {"dl_iterate_phdr"},
     "leaks/roots.o": {"dl_iterate_phdr", "_dl_get_tls_static_info", "_thread_db_sizeof_pthread"},
     "process/process.o": {"__register_atfork"},
-    "start/start.o": {"__cxa_atexit", "__cxa_at_quick_exit", "_IO_flush_all"},
+    "start/start.o": {"__cxa_atexit", "__cxa_at_quick_exit", "_IO_flush_all", "exit", "on_exit"},
     "process/unchecked.o": {"dlerror", "dlsym"},
 }
 

@@ -11,10 +11,10 @@ the status if there is no report.
 
 The suite `text` looks for what compiler-rt's tests look for with FileCheck, in the text of --log-path.
 
-For each suite it prints how many tests have the same, another class or line, no report, a false one, or were left out
-since they are outside the claims (tables.py). Each test that is not the same is named, with the reason if it is
-known. The last line is 'N passed, M failed': a known one passes, if it is still so. A word chooses a suite, or tests
-whose names have it. Allow it an hour, and more beside other work.
+For each suite it prints how many tests have the same, another class or line, no report, a false one, were left out
+since they are outside the claims (tables.py), or are for another system or processor. Each test that is not the same is
+named, with the reason if it is known. The last line is 'N passed, M failed': a known one passes, if it is still so. A
+word chooses a suite, or tests whose names have it. Allow it an hour, and more beside other work.
 """
 
 import fnmatch
@@ -28,7 +28,7 @@ from typing import Iterable, List, Optional, Sequence, Union
 sys.path.insert(0, f"{os.path.dirname(os.path.realpath(__file__))}/../..")  # where `testing` is
 
 from beside import compiler_rt, gcc, text, units
-from beside.compare import FALSE, LEFT_OUT, MISSED, OTHER, SAME, Job, Outcome, Verdict
+from beside.compare import ELSEWHERE, FALSE, LEFT_OUT, MISSED, NOT_RUN, OTHER, SAME, Job, Outcome, Verdict
 from beside.fetch import fetch
 from beside.programs import OUT, Kept
 from beside.tables import KNOWN, OUTSIDE, Row
@@ -36,7 +36,7 @@ from support import Failure, compilers
 from testing.suite import read, reader_of
 
 SUITES = (compiler_rt, gcc, units, text)
-COLUMNS = (SAME, OTHER, MISSED, FALSE, LEFT_OUT)
+COLUMNS = (SAME, OTHER, MISSED, FALSE, LEFT_OUT, ELSEWHERE)
 
 
 def row_for(table: Sequence[Row], job: Union[Job, Outcome]) -> Optional[Row]:
@@ -54,7 +54,7 @@ def do(job: Job) -> Outcome:
 def is_passed(outcome: Outcome) -> bool:
     """Whether a test has the same, or is known not to have it. It prints the differences."""
     known = row_for(KNOWN, outcome)
-    if outcome.kind in (SAME, LEFT_OUT):
+    if outcome.kind in (SAME, *NOT_RUN):
         if known:
             print(f"FAILED {outcome.suite} {outcome.name}: is {outcome.kind}, and known not to be the same", flush=True)
         return not known
@@ -67,12 +67,12 @@ def is_passed(outcome: Outcome) -> bool:
 
 def row_of(suite: str, what: str, kinds: Iterable[str]) -> str:
     counts = Counter(kinds)
-    return f"{suite:<14}{what:<12}{''.join(f'{counts[it]:>9}' for it in COLUMNS)}"
+    return f"{suite:<14}{what:<12}{''.join(f'{counts[it]:>10}' for it in COLUMNS)}"
 
 
 def print_table(outcomes: Sequence[Outcome]) -> None:
     """How many tests of each suite, and executions, have the same, and why those are left out that are."""
-    print(f"{'':<26}{''.join(f'{it:>9}' for it in COLUMNS)}")
+    print(f"{'':<26}{''.join(f'{it:>10}' for it in COLUMNS)}")
     for suite in dict.fromkeys(it.suite for it in outcomes):
         of_suite = [it for it in outcomes if it.suite == suite]
         print(row_of(suite, "tests", (it.kind for it in of_suite)))

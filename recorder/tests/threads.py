@@ -6,7 +6,7 @@ import re
 import signal
 from typing import Dict, List, Optional, Tuple
 
-from support import TESTS, Compiler, Suite, expect, run, write
+from support import RECORDER, TESTS, TOP, Compiler, Suite, expect, run, write
 from testing import Failure
 from testing.lines import lines_of
 from testing.side import Side, Thread, side_of
@@ -217,7 +217,16 @@ def check_cpp(suite: Suite, folder: str, compiler: Compiler) -> None:
     expect("main" in [function for function, _ in side.lines(thread.created)], True, "where it was created")
 
 
+def check_walks(_suite: Suite, folder: str, compiler: Compiler) -> None:
+    """A place of walks is one thread's, whenever a handler comes."""
+    argv = ["-iquote", RECORDER, "-iquote", TOP, "-pthread"]
+    compiler.c(folder, [f"{TESTS}/walks.c"], "walks", "-std=gnu11", *argv, native=True)
+    ran = run(["./walks"], folder)
+    expect((ran.returncode, ran.stdout, ran.stderr), (0, b"", b""), "the program")
+
+
 def tests(suite: Suite, compiler: Compiler) -> None:
+    suite.test(f"{compiler} places of walks", check_walks, compiler)
     sources, name = [f"{TESTS}/threads.c"], f"threads-{compiler}"
     program, sanitized = suite.built(compiler.c, sources, name, "-w", "-pthread"), None
     if compiler.has_sanitizer:

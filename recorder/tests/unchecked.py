@@ -6,7 +6,7 @@ import shutil
 from builds import LINKERS
 from support import CC, CXX, HELPER, PAST_THE_END, Failure, build, expect, has_plugin, noted, run, side_of, write
 
-STATIC = "calls of the C library (-static)"
+STATIC = "calls to the C library (-static)"
 
 # An allocator that gives each block once.
 ALLOCATOR = """
@@ -254,7 +254,7 @@ def check_mallocs(suite, folder, compiler):
     make(folder, compiler, *both, "./libother.so", "-o", "program")
     expect(unchecked(folder, "./program"), ["libother.so"], "linked: it is not used")
     make(folder, compiler, *both, "-o", "program")
-    wanted = ["calls of libraries (the link knew of none)", "libother.so"]
+    wanted = ["calls by libraries (none known at link time)", "libother.so"]
     expect(unchecked(folder, "./program", LD_PRELOAD="./libother.so"), wanted, "preloaded: it is not used")
 
 

@@ -1,4 +1,6 @@
-/* The members of an archive. */
+/* The members of an archive.
+
+   Called: by taken.c, in the one thread of the wrapper; no lock. */
 #ifndef ASANCOL_ARCHIVE_H
 #define ASANCOL_ARCHIVE_H
 

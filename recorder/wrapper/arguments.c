@@ -77,6 +77,7 @@ static const struct linker_word {
 #undef SAYS
 };
 
+/* A word for the linker without a value. False: it is none that matters. */
 static bool take_plain_linker_word(struct arguments *arguments, const char *word)
 {
     for (size_t i = 0; i < COUNT(linker_words); i++) {
@@ -105,6 +106,7 @@ static void take_linker_value(struct arguments *arguments, enum linker_value val
         names_add(&link->wraps, word);
 }
 
+/* A word for the linker that has its value in it, or in the next word. False: it is none. */
 static bool take_valued_linker_word(struct arguments *arguments, const char *word)
 {
     for (size_t i = 0; i < COUNT(linker_values); i++) {
@@ -351,6 +353,7 @@ static const struct option *option_of(const char *word)
     return NULL;
 }
 
+/* Finds the row of an option, and sets its field or calls its function; its value may be the next word. */
 static void take_option(struct arguments *arguments, const char *word)
 {
     const struct option *option = option_of(word);

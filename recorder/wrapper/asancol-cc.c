@@ -3,7 +3,11 @@
    It changes no argument of its caller's. It looks at them, in response files too, to see what the compiler will do
    (arguments.c); asks the compiler which it is (compilers.c); adds what that wants when it compiles (compiling.c) and
    when it links (linking.c); and runs it (running.c). The linked code that it did not compile it notes in the program
-   (taken.c). The name by which it is called says for which languages it is (fronts.def). */
+   (taken.c). The name by which it is called says for which languages it is (fronts.def). All that is known of the run
+   is gathered in a struct job (job.h).
+
+   The files of this folder are a program of their own, which has one thread and may call all of the C library. Its only
+   signal handler is pass_on in running.c. */
 #define _GNU_SOURCE
 #include <stdio.h>
 #include <sys/auxv.h>
@@ -31,9 +35,11 @@ static void read_arguments(struct job *job)
     job->request.stops_early |= job->request.is_shown;
 }
 
-#define NOTHING "with this nothing is recorded"
+#define NOTHING "nothing is recorded with this option"
 
-/* Warns of code compiled here that will not be recorded. */
+/* Warns of what will not be recorded: code that is compiled here or at the link, or for another sanitizer all of the
+   run, whatever it does. If something is compiled, the compiler was asked which it is: null means that it is neither
+   GCC nor Clang. */
 static void warn_of_unrecorded(const struct job *job)
 {
     const struct request *request = &job->request;
@@ -47,7 +53,7 @@ static void warn_of_unrecorded(const struct job *job)
     else if (!compiles)
         return;
     else if (request->refusal != NULL)
-        warn(request->refusal, "what is compiled with this is not recorded");
+        warn(request->refusal, "code compiled with this option is not recorded");
     else if (job->compiler != NULL)
         left_out_warn(&request->left_out, job->compiler->checks_of);
 }
@@ -64,6 +70,7 @@ int main(int count, char **argv)
     struct own_options own = own_options_take(argv, &called);
     request->is_all = own.is_all;
     request->tests_loops = own.has_loops;
+    request->has_all_loops = own.has_all_loops;
     request->runs_itself = own.runs_itself;
     job.command = command_of(own.compiler, job.front);
     read_arguments(&job);
@@ -74,8 +81,8 @@ int main(int count, char **argv)
     job.target = job.takes_part ? target_of(&job) : NULL;
     if (job.target != NULL)
         self_set_folder(job.target->machine);
-    bool compiles = job.takes_part && (request->inputs.has_source || is_compiled_late);
-    if (compiles || (request->foreign == NULL && request->says_use_after_return))
+    bool gets_checks = job.takes_part && (request->inputs.has_source || is_compiled_late);
+    if (gets_checks || (request->foreign == NULL && request->says_use_after_return))
         job.compiler = compiler_of(job.command.items, job.command.count);
     if (job.compiler != NULL)
         use_after_return_take(&job);

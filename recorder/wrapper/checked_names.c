@@ -64,6 +64,7 @@ static struct view index_of(struct view archive, size_t *count)
     return (struct view){archive.bytes + start + at, size - at};
 }
 
+/* The names in the index of the archive, as a hash table. */
 static struct known read_names(void)
 {
     struct known known = {NULL, 0};
@@ -184,6 +185,7 @@ struct object {
     size_t texts_size;
 };
 
+/* Gives each undefined symbol that the archive has the archive's name, as a new text. */
 static void change_symbols(struct object *object, struct table *table, FILE *texts)
 {
     char *symbols = object->bytes + (table->symbols.bytes - table->object.bytes);

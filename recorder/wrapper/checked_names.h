@@ -1,6 +1,8 @@
 /* Strings and streams of C++ are compiled with checks once, into an archive of the recorder's (cxx/instances.cpp). What
    it has there is called NAME.asancol, and an object that is compiled for it calls that. So it is not linked without
-   the archive, and nothing without checks takes its place. */
+   the archive, and nothing without checks takes its place.
+
+   Called: by linked.c and running.c, in the one thread of the wrapper; no lock. */
 #ifndef ASANCOL_CHECKED_NAMES_H
 #define ASANCOL_CHECKED_NAMES_H
 

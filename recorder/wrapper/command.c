@@ -1,3 +1,5 @@
+/* Our own options are taken out of argv where it stands; the compiler is the first of option, name and variable that
+   says one. */
 #define _GNU_SOURCE
 #include "wrapper/command.h"
 
@@ -13,8 +15,8 @@
 
 struct own_options own_options_take(char **argv, const struct called *called)
 {
-    static const char all[] = "--asancol-all", compiler[] = "--asancol-compiler=", loops[] = "--asancol-loops";
-    static const char run[] = "--asancol-run";
+    static const char all[] = "--asancol-all", all_loops[] = "--asancol-all-loops", compiler[] = "--asancol-compiler=";
+    static const char loops[] = "--asancol-loops", run[] = "--asancol-run";
     const char *setting = getenv("ASANCOL_ALL");
     struct own_options own = {.compiler = called->compiler, .is_all = setting != NULL && strcmp(setting, "1") == 0};
     if (own.compiler == NULL)
@@ -25,6 +27,8 @@ struct own_options own_options_take(char **argv, const struct called *called)
             own.is_all = true;
         else if (strcmp(*word, loops) == 0)
             own.has_loops = true;
+        else if (strcmp(*word, all_loops) == 0)
+            own.has_loops = own.has_all_loops = true;
         else if (strcmp(*word, run) == 0)
             own.runs_itself = true;
         else if (begins_with(*word, compiler))
@@ -36,6 +40,7 @@ struct own_options own_options_take(char **argv, const struct called *called)
     return own;
 }
 
+/* The path of the program that a word names. Fails if there is none, or it is this one. */
 static const char *program_of(const char *word)
 {
     char real[PATH_MAX];

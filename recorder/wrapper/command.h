@@ -1,4 +1,6 @@
-/* The compiler that is run. */
+/* The compiler that is run.
+
+   Called: by asancol-cc.c, in the one thread of the wrapper; no lock. */
 #ifndef ASANCOL_COMMAND_H
 #define ASANCOL_COMMAND_H
 
@@ -10,7 +12,7 @@
 /* The wrapper's own options. ccache sees options, and no variables. */
 struct own_options {
     const char *compiler; /* in words, or null */
-    bool is_all, has_loops, runs_itself;
+    bool is_all, has_loops, has_all_loops, runs_itself;
 };
 
 /* Takes its options out of the arguments, and what they do not say from its name, or else the environment. */

@@ -85,6 +85,7 @@ static const struct compiler compilers[] = {
         .header = "cold_reports.h",
         .intrinsics = "clang_intrinsics.h",
         .loops = LOOPS_FILE,
+        .all_loops = ALL_LOOPS_FILE,
     },
 };
 

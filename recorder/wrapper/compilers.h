@@ -1,4 +1,6 @@
-/* The compilers that are known, and what each of them is given so that it puts in its checks. */
+/* The compilers that are known, and what each of them is given so that it puts in its checks.
+
+   Called: by asancol-cc.c, loops.c, plugin.c and target.c, in the one thread of the wrapper; no lock. */
 #ifndef ASANCOL_COMPILERS_H
 #define ASANCOL_COMPILERS_H
 
@@ -35,6 +37,7 @@ struct compiler {
     const char *own_number; /* before a number that makes the noted switches of each object its own, or null */
     const char *plugin;     /* a file of the recorder's that may be there, and adds checks (plugin.c); or null */
     const char *loops;      /* one that may be there, and tests loops as a whole (loops.c); or null */
+    const char *all_loops;  /* the same, whatever code that adds */
     struct flags without_plugin; /* what C and C++ are compiled with if it is not */
     bool has_driver;        /* a program that runs it, and hands it arguments after -Xclang without a look at them */
     enum check_compiler checks_of; /* which arguments take some of its checks away */
@@ -42,7 +45,7 @@ struct compiler {
 };
 
 /* The message about another one. */
-#define UNKNOWN_COMPILER "neither GCC nor Clang by its --version: what it compiles is not recorded"
+#define UNKNOWN_COMPILER "neither GCC nor Clang by its --version: its code is not recorded"
 
 /* The compiler that a command runs, of which the first word is a path. It asks the compiler: a name says little, as
    that of a script, of ccache, or of a link. Null: it is none of these. */

@@ -3,6 +3,7 @@
 #include "wrapper/compiling.h"
 
 #include <stdio.h>
+#include <stdlib.h>
 #include <string.h>
 #include <sys/stat.h>
 

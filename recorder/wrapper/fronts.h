@@ -1,4 +1,6 @@
-/* The names by which the wrapper is called, and what depends on them. */
+/* The names by which the wrapper is called, and what depends on them.
+
+   Called: by asancol-cc.c, in the one thread of the wrapper; no lock. */
 #ifndef ASANCOL_FRONTS_H
 #define ASANCOL_FRONTS_H
 

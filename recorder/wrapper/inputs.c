@@ -1,3 +1,4 @@
+/* The table `suffixes` of the ends of names; a file with another end is looked into. */
 #define _GNU_SOURCE
 #include "wrapper/inputs.h"
 
@@ -36,6 +37,7 @@ struct language language_of(const char *name)
     return language;
 }
 
+/* By the end of the name, or else by the first bytes of the file. */
 static enum input input_of(const char *path)
 {
     for (size_t i = 0; i < COUNT(suffixes); i++)

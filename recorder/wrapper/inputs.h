@@ -1,4 +1,6 @@
-/* What a compiler does with a file, by its language or the end of its name. */
+/* What a compiler does with a file, by its language or the end of its name.
+
+   Called: by arguments.c, in the one thread of the wrapper; no lock. */
 #ifndef ASANCOL_INPUTS_H
 #define ASANCOL_INPUTS_H
 

@@ -131,7 +131,7 @@ void left_out_warn(const struct left_out *left_out, enum check_compiler compiler
 {
     for (size_t i = 0; i < COUNT(checks); i++)
         if (checks[i].compiler == compiler && left_out->words[i] != NULL)
-            warn(left_out->words[i], "what is compiled with this lacks checks: what they would find is not recorded");
+            warn(left_out->words[i], "code compiled with this option lacks checks, and misses some bad accesses");
 }
 
 void left_out_free(struct left_out *left_out)

@@ -1,4 +1,6 @@
-/* The caller's arguments that take some of our checks away, and leave others. */
+/* The caller's arguments that take some of our checks away, and leave others.
+
+   Called: by linked.c, arguments.c, asancol-cc.c and running.c, in the one thread of the wrapper; no lock. */
 #ifndef ASANCOL_WRAPPER_LEFT_OUT_H
 #define ASANCOL_WRAPPER_LEFT_OUT_H
 

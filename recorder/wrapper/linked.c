@@ -212,6 +212,7 @@ static void count_symbols(struct parts *parts, struct view view, const Elf64_Shd
     }
 }
 
+/* What the sections of an object have in them. */
 static struct parts parts_of(struct view view)
 {
     struct parts parts = {0};
@@ -256,6 +257,7 @@ struct look {
     bool is_lto;
 };
 
+/* Whether a file was compiled this way, and whether it is compiled at the link: by its sections, or else its bytes. */
 static struct look look_at(struct view view)
 {
     if (view_section_count(view) != 0) {

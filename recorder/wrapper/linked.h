@@ -1,4 +1,6 @@
-/* The files that are given to a link: which of them were compiled by the wrapper. */
+/* The files that are given to a link: which of them were compiled by the wrapper.
+
+   Called: by inputs.c, arguments.c, taken.c and archive.c, in the one thread of the wrapper; no lock. */
 #ifndef ASANCOL_LINKED_H
 #define ASANCOL_LINKED_H
 

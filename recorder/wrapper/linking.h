@@ -1,4 +1,6 @@
-/* What a compiler is given for a link: the recorder, and the functions that the linker wraps. */
+/* What a compiler is given for a link: the recorder, and the functions that the linker wraps.
+
+   Called: by running.c, in the one thread of the wrapper; no lock. */
 #ifndef ASANCOL_LINKING_H
 #define ASANCOL_LINKING_H
 

@@ -1,3 +1,4 @@
+/* Stateless: the version of Clang is read from its program, or asked for, and the file for it is tried. */
 #define _GNU_SOURCE
 #include "wrapper/loops.h"
 
@@ -55,7 +56,8 @@ const char *loops_of(const struct job *job)
 {
     const struct request *request = &job->request;
     char name[sizeof LOOPS_FILE_OF + 16];
-    const char *plugin = job->compiler->loops != NULL ? self_find_file(job->compiler->loops) : NULL;
+    const char *file = request->has_all_loops ? job->compiler->all_loops : job->compiler->loops;
+    const char *plugin = file != NULL ? self_find_file(file) : NULL;
     if (plugin == NULL || request->is_all || !request->tests_loops || !request->is_optimized)
         return NULL;
     unsigned major = major_of(job);

@@ -1,4 +1,6 @@
-/* The plugin that Clang is given, which tests loops as a whole (loops/plugin.c). */
+/* The plugin that Clang is given, which tests loops as a whole (loops/plugin.c).
+
+   Called: by compiling.c, in the one thread of the wrapper; no lock. */
 #ifndef ASANCOL_WRAPPER_LOOPS_H
 #define ASANCOL_WRAPPER_LOOPS_H
 

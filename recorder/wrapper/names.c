@@ -1,3 +1,4 @@
+/* An array that is searched from its start: there are few names, at most MAX_NAMES. */
 #define _GNU_SOURCE
 #include "wrapper/names.h"
 

@@ -1,4 +1,6 @@
-/* Names, each once. */
+/* Names, each once.
+
+   Called: by arguments.c, inputs.c, own_data.c, running.c and taken.c, in the one thread of the wrapper; no lock. */
 #ifndef ASANCOL_WRAPPER_NAMES_H
 #define ASANCOL_WRAPPER_NAMES_H
 

@@ -1,4 +1,6 @@
-/* What a program has for itself of the names of functions which the linker wraps. */
+/* What a program has for itself of the names of functions which the linker wraps.
+
+   Called: by linking.c, in the one thread of the wrapper; no lock. */
 #ifndef ASANCOL_OWN_DATA_H
 #define ASANCOL_OWN_DATA_H
 

@@ -1,3 +1,5 @@
+/* Stateless: what the plugin says it was made for (struct made_for) is looked for in the compiler, or in its answer to
+   -v. */
 #define _GNU_SOURCE
 #include "wrapper/plugin.h"
 
@@ -13,6 +15,7 @@ struct made_for {
     const char *version, *configured;
 };
 
+/* Finds what the plugin was made for, behind a text in it. False: it does not say so. */
 static bool read_made_for(struct view plugin, struct made_for *made_for)
 {
     static const char front[] = PLUGIN_MADE_FOR;

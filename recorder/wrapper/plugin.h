@@ -1,4 +1,6 @@
-/* The plugin that GCC is given, which adds the checks that GCC leaves out (plugin/gcc.cpp). */
+/* The plugin that GCC is given, which adds the checks that GCC leaves out (plugin/gcc.cpp).
+
+   Called: by compiling.c, in the one thread of the wrapper; no lock. */
 #ifndef ASANCOL_WRAPPER_PLUGIN_H
 #define ASANCOL_WRAPPER_PLUGIN_H
 

@@ -1,4 +1,6 @@
-/* What the arguments of a command line ask the compiler for. */
+/* What the arguments of a command line ask the compiler for.
+
+   Called: no code is here. arguments.c and inputs.c fill it in; in the one thread of the wrapper; no lock. */
 #ifndef ASANCOL_REQUEST_H
 #define ASANCOL_REQUEST_H
 
@@ -51,6 +53,7 @@ struct request {
     bool is_optimized;   /* by its last word of that kind */
     bool is_verbose;     /* the compiler says what it does, by -v */
     bool tests_loops;    /* as a whole, where the compiler has a plugin for it */
+    bool has_all_loops;  /* whatever code that adds */
     bool runs_itself;    /* under asancol-run, unless ASANCOL_RUN is 0 */
     bool is_all;         /* each access is a call, and not only one that its check finds bad */
     bool is_libcxx;      /* the library of C++ is that of LLVM */

@@ -1,3 +1,4 @@
+/* A file is read byte by byte into a struct word, which grows. */
 #include "wrapper/response.h"
 
 #include <stdbool.h>

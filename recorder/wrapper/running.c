@@ -1,4 +1,6 @@
-/* A link runs once or twice: the linker's output, read from a pipe, decides about the second (running_link). */
+/* A link runs up to four times (running_link). It is tried, and tried again with all stubs if that fails (link_first).
+   If the linked file shows that names are the program's own, it is linked again; and if that fails, once more, to show
+   why. What the linker says is read from a pipe into a struct link. */
 #define _GNU_SOURCE
 #include "wrapper/running.h"
 
@@ -74,7 +76,7 @@ void running_become(const struct job *job)
 
 /* What a link has said, and what it has taken in. */
 struct link {
-    off_t start; /* of the source in standard input */
+    off_t input_start; /* where the source in standard input begins */
     struct taken taken;
     char *said; /* what --trace has not written */
     size_t length;
@@ -132,8 +134,8 @@ static off_t keep_standard_input(void)
 /* Where standard error of a compiler goes: to ours, nowhere, or else into a file of this number. */
 enum { ERRORS_OURS = -1, ERRORS_NOWHERE = -2 };
 
-/* Starts the compiler, whose output goes there. */
-static pid_t start(const struct strings *line, int output, int errors)
+/* Starts the compiler: its standard output goes to the descriptor `output`, its standard error as `errors` says. */
+static pid_t start_compiler(const struct strings *line, int output, int errors)
 {
     posix_spawn_file_actions_t actions;
     pid_t child;
@@ -167,7 +169,8 @@ static int wait_for(pid_t child, const char *name)
 static _Atomic pid_t compiler;
 static volatile sig_atomic_t ending;
 
-/* It is the compiler that is meant, which then leaves no object. */
+/* The handler: touches `ending` and reads `compiler`, no more. It is the compiler that is meant, which then leaves no
+   object. */
 static void pass_on(int number)
 {
     pid_t child = atomic_load(&compiler);
@@ -201,8 +204,8 @@ int running_compile(struct job *job)
     struct strings line = make_line(job, false);
     pass_signals_on();
     end_if_ended();
-    atomic_store(&compiler, start(&line, STDOUT_FILENO, ERRORS_OURS));
-    if (ending != 0)
+    atomic_store(&compiler, start_compiler(&line, STDOUT_FILENO, ERRORS_OURS));
+    if (ending != 0) /* it came while nobody knew the compiler's number */
         kill(atomic_load(&compiler), ending);
     int status = wait_for(atomic_load(&compiler), line.items[0]);
     atomic_store(&compiler, 0);
@@ -220,10 +223,10 @@ static int link_once(const struct job *job, bool is_try, struct link *link, int 
     int ends[2];
     struct strings line = make_line(job, is_try);
     if (job->request.inputs.has_standard)
-        lseek(STDIN_FILENO, link->start, SEEK_SET);
+        lseek(STDIN_FILENO, link->input_start, SEEK_SET);
     if (pipe2(ends, O_CLOEXEC) != 0)
         fail(line.items[0], strerror(errno));
-    pid_t child = start(&line, ends[1], errors);
+    pid_t child = start_compiler(&line, ends[1], errors);
     close(ends[1]);
     char *text = read_all(ends[0]);
     int status = wait_for(child, line.items[0]);
@@ -240,7 +243,7 @@ static int end_link(const struct job *job, struct link *link, int status, const 
     bool lacks_checks = request->refusal != NULL
                         || (job->compiler != NULL && left_out_any(&request->left_out, job->compiler->checks_of));
     if (linking_is_static(&request->link) && !request->link.is_bare)
-        names_add(&link->taken.own, "calls of the C library (-static)");
+        names_add(&link->taken.own, "calls to the C library (-static)");
     for (size_t i = 0; i < assembly->count; i++)
         names_add(&link->taken.own, assembly->names[i]);
     for (size_t i = 0; lacks_checks && i < sources->count; i++)
@@ -300,8 +303,8 @@ int running_link(struct job *job)
     const struct link_request *request = &job->request.link;
     const char *output = request->output != NULL ? request->output : "a.out";
     bool is_static = linking_is_static(request), is_twice = request->is_stripped && !is_static;
-    off_t start = job->request.inputs.has_standard ? keep_standard_input() : 0;
-    struct link first = {.start = start}, second = first, third = first;
+    off_t input_start = job->request.inputs.has_standard ? keep_standard_input() : 0;
+    struct link first = {.input_start = input_start}, second = first, third = first;
     int status = link_first(job, &first, !is_static, is_twice);
     bool is_again = status == 0 && !is_static && needs_another(job, &first, output);
     if (!is_twice && !is_again)

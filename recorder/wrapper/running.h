@@ -1,4 +1,7 @@
-/* Runs the compiler. */
+/* Runs the compiler.
+
+   Called: by asancol-cc.c, as the last thing that it does, in the one thread of the wrapper; no lock. While an object
+   is compiled, a signal handler of running.c passes signals on to the compiler. */
 #ifndef ASANCOL_RUNNING_H
 #define ASANCOL_RUNNING_H
 

@@ -1,3 +1,4 @@
+/* Two lines with the name by which the wrapper was called. */
 #include "wrapper/say.h"
 
 #include <stdio.h>

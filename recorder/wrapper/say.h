@@ -1,4 +1,6 @@
-/* What the wrapper has to say, on standard error. */
+/* What the wrapper has to say, on standard error.
+
+   Called: by all files here, in the one thread of the wrapper; no lock. */
 #ifndef ASANCOL_WRAPPER_SAY_H
 #define ASANCOL_WRAPPER_SAY_H
 

@@ -1,3 +1,4 @@
+/* The path of the program, read once; files are looked for beside it and in ../lib/asancol. */
 #define _GNU_SOURCE
 #include "wrapper/self.h"
 
@@ -27,6 +28,7 @@ void self_set_folder(const char *folder)
     first_folder = folder;
 }
 
+/* A file in this folder of each place; or null. */
 static char *find_in(const char *folder, const char *name)
 {
     static const char *const places[] = {"", "../lib/asancol/"};

@@ -1,4 +1,7 @@
-/* Where the wrapper is, and what lies beside it. */
+/* Where the wrapper is, and what lies beside it.
+
+   Called: by whoever needs a file of the recorder's (compiling.c, linking.c, plugin.c, loops.c and others), in the one
+   thread of the wrapper; no lock. */
 #ifndef ASANCOL_SELF_H
 #define ASANCOL_SELF_H
 

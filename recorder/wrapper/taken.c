@@ -78,6 +78,7 @@ static bool is_file(const char *path)
     return stat(path, &seen) == 0 && S_ISREG(seen.st_mode);
 }
 
+/* Takes a file that the linker has named. */
 static void take_file(struct taken *taken, const char *path)
 {
     taken->has_begun = true;
@@ -158,6 +159,7 @@ bool taken_line(struct taken *taken, const char *line)
     return is_taken;
 }
 
+/* Notes what asancol-cc did not compile of an archive: its members if it has others too, else the archive. */
 static void end_archive(struct taken *taken, const struct taken_archive *archive)
 {
     char text[2 * PATH_MAX];
@@ -266,7 +268,7 @@ void taken_write(struct taken *taken, const char *output)
         if (text->more + taken->own.more != 0)
             snprintf(text->bytes + text->length, MORE_LENGTH, "+%zu\n", text->more + taken->own.more);
         if (pwrite(file, text->bytes, sizeof text->bytes, (off_t)at) < 0)
-            warn(output, "what was not compiled by asancol-cc could not be noted");
+            warn(output, "the list of unchecked code could not be added");
         close(file);
     }
     free(text);

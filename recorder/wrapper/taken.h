@@ -1,5 +1,7 @@
 /* What a link has taken in, by the word of the linker, which names it with --trace; and what of it asancol-cc did not
-   compile. */
+   compile.
+
+   Called: by running.c, in the one thread of the wrapper; no lock. */
 #ifndef ASANCOL_TAKEN_H
 #define ASANCOL_TAKEN_H
 

@@ -1,3 +1,4 @@
+/* The table `targets` of other processors, by the names that compilers have for them. */
 #define _GNU_SOURCE
 #include "wrapper/target.h"
 

@@ -1,4 +1,6 @@
-/* For which processor a compiler compiles. */
+/* For which processor a compiler compiles.
+
+   Called: by asancol-cc.c, in the one thread of the wrapper; no lock. */
 #ifndef ASANCOL_WRAPPER_TARGET_H
 #define ASANCOL_WRAPPER_TARGET_H
 

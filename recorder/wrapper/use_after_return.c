@@ -89,6 +89,7 @@ static void keep_front(struct pass *pass)
     pass->front = NULL;
 }
 
+/* Takes a word of a response file. */
 static void take(void *to, const char *word)
 {
     struct pass *pass = to;

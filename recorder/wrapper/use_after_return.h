@@ -1,5 +1,7 @@
 /* Whether accesses to variables of functions that have returned are to be found. Clang and GCC have words of their own
-   for it, and each is understood with both. */
+   for it, and each is understood with both.
+
+   Called: by asancol-cc.c, in the one thread of the wrapper; no lock. */
 #ifndef ASANCOL_WRAPPER_USE_AFTER_RETURN_H
 #define ASANCOL_WRAPPER_USE_AFTER_RETURN_H
 

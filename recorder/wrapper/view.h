@@ -1,4 +1,7 @@
-/* Files that the wrappers of compilers look at, mapped. */
+/* Files that the wrappers of compilers look at, mapped.
+
+   Called: by whoever looks into a file (linked.c, own_data.c, checked_names.c, taken.c and others), in the one thread
+   of the wrapper; no lock. */
 #ifndef ASANCOL_VIEW_H
 #define ASANCOL_VIEW_H
 

@@ -7,10 +7,13 @@ from beside.execute import NOT_BUILT, Execution, Report
 from beside.tables import CRASHES, UNCLAIMED
 
 SAME, OTHER, FALSE, MISSED, LEFT_OUT = "same", "other", "false", "missed", "left out"
+# A test for another system or processor.
+ELSEWHERE = "elsewhere"
 # What the recorded way says in place of a report.
 NO_REPORT = ("incomplete", NOT_BUILT)
 # The worst comes last.
-ORDER = [LEFT_OUT, SAME, OTHER, FALSE, MISSED]
+ORDER = [ELSEWHERE, LEFT_OUT, SAME, OTHER, FALSE, MISSED]
+NOT_RUN = (ELSEWHERE, LEFT_OUT)
 
 
 class Verdict(NamedTuple):
@@ -44,7 +47,7 @@ class Outcome(NamedTuple):
         """The differences, each with its place."""
         found: Dict[Tuple[str, str], List[str]] = {}
         for it in self.verdicts:
-            if it.kind == self.kind or it.kind not in (SAME, LEFT_OUT):
+            if it.kind == self.kind or it.kind not in (SAME, *NOT_RUN):
                 found.setdefault((it.kind, it.why), []).append(it.where)
         for (kind, why), where in found.items():
             yield " ".join(it for it in [f"{kind}:", *dict.fromkeys(where), why] if it)

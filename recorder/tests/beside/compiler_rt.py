@@ -7,9 +7,9 @@ import json
 import os
 import re
 import subprocess
-from typing import Iterator, List, Sequence, Tuple
+from typing import Iterator, List, Optional, Sequence, Tuple
 
-from beside.compare import LEFT_OUT, Job, Verdict, compare_all
+from beside.compare import ELSEWHERE, LEFT_OUT, Job, Verdict, compare_all
 from beside.execute import FINDS_RETURNS, RETURNS, SOURCES, Execution
 from beside.programs import Kept, folder_for_a_test, read, version_of, without_address
 from support import CC, CXX, Compiler
@@ -22,6 +22,9 @@ EXECUTE = f"{os.path.dirname(os.path.realpath(__file__))}/execute.py"
 FEATURES = {"linux", "x86_64-linux", "x86_64-target-arch", "x86-target-arch", "asan-64-bits", "asan-static-runtime",
             "stable-runtime", "shadow-scale-3", "fast-unwinder-works", "leak-detection", "glibc-2.27", "shell", "Clang",
             "compiler-rt-optimized", "shared_cxxabi", "lld", "lld-available", "lto", "*"}
+
+# The folders of tests for other systems.
+OTHER_SYSTEMS = ("Android", "Darwin", "Windows")
 
 # What the tools do that lines are piped through: nothing is asked of the output.
 TOOLS = {"not": '[ "$1" != --crash ] || shift; exec "$@"', "FileCheck": "exec cat > /dev/null",
@@ -49,6 +52,16 @@ def unfit(text: str) -> str:
         if not has(it):
             return f"asks for {it}"
     return next((f"is not for {it}" for it in clauses(text, "UNSUPPORTED") if has(it)), "")
+
+
+def why_not(name: str, text: str) -> Optional[Verdict]:
+    """Why a test can't be run here, if it can't."""
+    if name.split("/")[0] in OTHER_SYSTEMS:
+        return Verdict(ELSEWHERE, "for other systems")
+    why = unfit(text)
+    if why:
+        return Verdict(ELSEWHERE if "-target-arch" in why else LEFT_OUT, why)
+    return None if script_of(text) else Verdict(LEFT_OUT, "has no RUN line")
 
 
 def script_of(text: str) -> str:
@@ -110,9 +123,9 @@ def executions(source: str, script: str, way: str) -> List[Execution]:
 def check(kept: Kept, compiler: Compiler, source: str) -> List[Verdict]:
     with open(source, encoding="utf-8", errors="replace") as file:
         text = file.read()
-    script, why = script_of(text), unfit(text)
-    if why or not script:
-        return [Verdict(LEFT_OUT, why or "has no RUN line")]
+    why, script = why_not(os.path.relpath(source, TREE), text), script_of(text)
+    if why:
+        return [why]
     question = [version_of(compiler), script, *FLAGS, text]
     real = kept.ask(question, lambda: executions(source, script, "real"))
     if not real:

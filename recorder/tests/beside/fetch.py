@@ -13,7 +13,7 @@ ARCHIVE = Archive(os.path.dirname(SOURCES.rstrip("/")))
 
 # The archive of each package, the folders that are needed of it, and for GCC the archive that lies in it.
 PACKAGES = {
-    "llvm-toolchain-14": ["*/compiler-rt/test/asan/*"],
+    "llvm-toolchain-14": ["*/compiler-rt/test/asan/*", "*/compiler-rt/lib/*_flags.inc"],
     "gcc-12": [f"*/gcc/testsuite/{it}/asan/*" for it in ("c-c++-common", "gcc.dg", "g++.dg")],
 }
 

@@ -7,7 +7,7 @@ import os
 import re
 from typing import Iterator, List, NamedTuple, Sequence
 
-from beside.compare import LEFT_OUT, Job, Verdict, compare_all
+from beside.compare import OTHER, SAME, Job, Verdict, compare_all
 from beside.execute import FINDS_RETURNS, RETURNS, SOURCES
 from beside.programs import Kept, Program, folder_for_a_test, version_of
 from support import Compiler
@@ -122,10 +122,23 @@ def tests() -> Iterator[Test]:
                 yield from (Test(source, it, directives) for it in languages)
 
 
+def check_compiled(compiler: Compiler, test: Test) -> List[Verdict]:
+    """Whether a test that is only compiled is, at each of its levels, if it is with AddressSanitizer. What the compiler
+    then has in its dumps is not asked."""
+    verdicts = []
+    for level in test.levels():
+        program = Program(compiler, test.is_cpp, ["-g", "-w", level, *test.flags(), "-c", test.source])
+        with folder_for_a_test() as folder:
+            real, recorded = (program.build(way, folder) for way in ("real", "recorded"))
+        wrong = Verdict(OTHER, f"is {'' if recorded else 'not '}compiled")
+        verdicts.append((Verdict(SAME) if recorded == real else wrong)._replace(where=level))
+    return verdicts
+
+
 def check(kept: Kept, compiler: Compiler, test: Test) -> List[Verdict]:
     """What comes of a test at each of its levels."""
     if not test.is_run:
-        return [Verdict(LEFT_OUT, "is only compiled")]
+        return check_compiled(compiler, test)
     verdicts, options = [], test.options
     for level in test.levels():
         program = Program(compiler, test.is_cpp, ["-g", "-w", level, *test.flags(), test.source])

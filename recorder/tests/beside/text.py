@@ -53,9 +53,9 @@ def checks(source: str, script: str, way: str) -> List[str]:
 def check(compiler: Compiler, source: str) -> List[Verdict]:
     with open(source, encoding="utf-8", errors="replace") as file:
         text = file.read()
-    script, why = compiler_rt.script_of(text), compiler_rt.unfit(text)
+    why, script = compiler_rt.why_not(os.path.relpath(source, compiler_rt.TREE), text), compiler_rt.script_of(text)
     if why or "FileCheck" not in script:
-        return [Verdict(LEFT_OUT, why or "looks at no text")]
+        return [why or Verdict(LEFT_OUT, "looks at no text")]
     found = checks(source, script, "text")
     if any(found) and any(checks(source, script, "real")):
         return [Verdict(LEFT_OUT, "AddressSanitizer's own text does not match here")]

@@ -21,6 +21,7 @@
 #include "base/lock.h"
 #include "base/say.h"
 #include "base/self.h"
+#include "environment/asan_options.h"
 #include "environment/stale_trace.h"
 #include "environment/other_threads.h"
 #include "environment/hub_word.h"
@@ -155,6 +156,7 @@ void undisturbed_end(const struct disturbance *before)
     explore_disturb(-1);
 }
 void hub_word_note(const char *hub, const char *why) { (void)hub, (void)why; }
+bool asan_options_check_call(const char *name) { return name != NULL; }
 void recorder_say(const char *what, const char *of, const char *why)
 {
     (void)what, (void)of, (void)why;
@@ -559,7 +561,7 @@ static void do_step(unsigned thread, enum step step, unsigned number)
         break;
     case EXEC:
         heap_lock(); /* nobody goes on in another segment */
-        if (stream_suspend())
+        if (stream_suspend(0))
             stream_resume();
         heap_unlock();
         break;

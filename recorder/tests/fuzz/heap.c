@@ -58,7 +58,6 @@ enum state stream_state(void) { return STATE_RECORDING; }
 union stream_page stream_page;
 bool stream_wake(void) { return true; }
 void book_forget(void) {}
-void book_release(const struct block *block) { (void)block; }
 void stream_stop(const char *why) { fprintf(stderr, "%s\n", why), exit(1); }
 /* Of the thread that takes snapshots. */
 static _Thread_local uint64_t events;
@@ -200,15 +199,17 @@ static uint64_t draw(struct thread *me, uint64_t below)
     return (me->draws ^= me->draws << 17) % below;
 }
 
-/* A bit for each address at which a block may begin. */
-static _Atomic uint64_t *handed_out;
+/* Of each address at which a block may begin: the turn of its unit in which it was handed out, and one more; or 0. */
+static _Atomic uint32_t *handed_out;
 
+/* The book of lean recording knows by the turn whether the block that it has there is the same. */
 static void expect_new(const void *block)
 {
-    uint64_t number = (uint64_t)((const unsigned char *)block - arena.bytes) / ALIGNMENT;
-    uint64_t bit = UINT64_C(1) << number % 64;
-    bool is_new = (atomic_fetch_or_explicit(&handed_out[number / 64], bit, memory_order_relaxed) & bit) == 0;
-    expect(is_new || !round_now.is_new, "an address that was not handed out before");
+    uint64_t distance = (uint64_t)((const unsigned char *)block - arena.bytes);
+    uint32_t turn = NOTE_NOW(arena.units[distance / UNIT].turns) + 1;
+    uint32_t before = atomic_exchange_explicit(&handed_out[distance / ALIGNMENT], turn, memory_order_relaxed);
+    expect(before == 0 || !round_now.is_new, "an address that was not handed out before");
+    expect(before != turn || heap_is_ordered() || heap.is_unpainted, "another turn at an address used again");
 }
 
 static struct mark *take_block(size_t size, size_t alignment, bool zeroed)
@@ -382,9 +383,9 @@ static void check_all(void)
 {
     static const uint64_t bounds[] = {UINT64_MAX, HELD_BYTES, 0, UINT64_MAX, HELD_BYTES / 16};
     enum { COUNT = sizeof bounds / sizeof *bounds };
-    size_t bytes = (size_t)UNITS * UNIT / ALIGNMENT / 8;
+    size_t bytes = (size_t)UNITS * UNIT / ALIGNMENT * sizeof *handed_out;
     handed_out = mmap(NULL, bytes, PROT_READ | PROT_WRITE, MAP_PRIVATE | MAP_ANONYMOUS | MAP_NORESERVE, -1, 0);
-    expect(handed_out != MAP_FAILED, "the bits");
+    expect(handed_out != MAP_FAILED, "the turns");
     atomic_store(&lean_is_on, true);
     for (int i = 0; i < COUNT; i++) {
         round_now.has_end = i == COUNT - 2;

@@ -3,6 +3,8 @@
 #define UNITS (1 << 18)
 #define MOST_CLOSED 4
 #define MOST_KEPT 64
+/* More than the rounds take that use no memory again. */
+#define MANY_UNITS 2200
 
 #if defined __SANITIZE_ADDRESS__
 #define IS_ABOVE 1

@@ -269,7 +269,7 @@ static void fork_one(void)
 static void exec_one(void)
 {
     lock_heap();
-    if (stream_suspend())
+    if (stream_suspend(0))
         expect(stream_resume(), "the end of an exec");
     unlock_heap();
 }
