@@ -32,6 +32,6 @@ end
 complete -c asancol-listen -n '_asancol_listen_takes command' -x -a '(__fish_complete_subcommand --fcs-skip=3 - --mode --group --connections)'
 complete -c asancol-listen -n '_asancol_listen_takes option' -l mode -x -d 'the mode of SOCKET, in octal digits'
 complete -c asancol-listen -n '_asancol_listen_takes option' -l group -x -a '(__fish_complete_groups)' -d 'the group of SOCKET'
-complete -c asancol-listen -n '_asancol_listen_takes option' -l connections -x -d 'most COMMANDs that run at once'
+complete -c asancol-listen -n '_asancol_listen_takes option' -l connections -x -d 'at most N COMMANDs run at once'
 complete -c asancol-listen -n '_asancol_listen_takes option' -s h -l help -d 'print this help'
 complete -c asancol-listen -n '_asancol_listen_takes option' -l version -d 'print the name and the release'

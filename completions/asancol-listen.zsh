@@ -5,7 +5,7 @@
 _arguments -S \
     '--mode=[the mode of SOCKET, in octal digits]:octal digits (600)' \
     '--group=[the group of SOCKET]:group:_groups' \
-    '--connections=[most COMMANDs that run at once]:number (256)' \
+    '--connections=[at most N COMMANDs run at once]:number (256)' \
     '(- *)'{-h,--help}'[print this help]' \
     '(- *)--version[print the name and the release]' \
     '1:file:_files' \

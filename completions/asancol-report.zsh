@@ -17,7 +17,7 @@ _arguments -S \
     '--source-root=[show files under DIR by their paths from there]:folder:_files -/' \
     '--color=[colors: auto, always or never]:when:(auto always never)' \
     '--full-stacks[print all frames of a stack, and whole names]' \
-    '--shadow[print the shadow bytes round each bad byte]' \
+    '--shadow[print the shadow bytes around each bad byte]' \
     '--unchecked=[unchecked code: list, no or error]:how:(list no error)' \
     '--no-machines[omit names of machines and times of runs]' \
     '(-q --quiet)'{-q,--quiet}'[print nothing if all is clean]' \

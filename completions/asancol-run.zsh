@@ -7,7 +7,7 @@ _arguments -S \
     '(--exitcode --error-exitcode)--error-exitcode=[status if a report counts]:number (99)' \
     '--incomplete-exitcode=[status if the run was incomplete]:number (98)' \
     '--nothing-exitcode=[status if nothing was recorded]:number (98)' \
-    '--at-least=[fewest processes that must be recorded]:number (0)' \
+    '--at-least=[least number of processes to be recorded]:number (0)' \
     '--wait=[seconds for processes that outlive COMMAND]:seconds (5)' \
     '--timeout=[end COMMAND after S seconds]:seconds' \
     '--json=[JSON lines, which asancol-report reads]:file:_files' \
@@ -24,7 +24,7 @@ _arguments -S \
     '--source-root=[show files under DIR by their paths from there]:folder:_files -/' \
     '--color=[colors: auto, always or never]:when:(auto always never)' \
     '--full-stacks[print all frames of a stack, and whole names]' \
-    '--shadow[print the shadow bytes round each bad byte]' \
+    '--shadow[print the shadow bytes around each bad byte]' \
     '--unchecked=[unchecked code: list, no or error]:how:(list no error)' \
     '(-q --quiet)'{-q,--quiet}'[print nothing if all is clean]' \
     '(-v --verbose)'{-v,--verbose}'[print a line for each process]' \
@@ -33,7 +33,7 @@ _arguments -S \
     '--gen-suppressions[print with each report the line that suppresses it]' \
     '--baseline=[reports of this result of --json do not count]:file:_files -g "*.jsonl(-.)"' \
     '--quarantine=[bytes of freed blocks to hold]:number (268435456)' \
-    '--no-mismatches[allow a malloc to be freed by delete, and so on]' \
+    '--no-mismatches[allow delete of a malloc block, and the like]' \
     '--full[record all mallocs and frees, not only near faults]' \
     '--preload[record modules of plain programs, too]' \
     '--memory=[most bytes that each checker may hold]:number (no bound)' \

@@ -2,6 +2,7 @@
 
 from __future__ import annotations
 
+import itertools
 import re
 from typing import List, NamedTuple
 
@@ -31,9 +32,13 @@ def rows_of(text: str) -> List[Row]:
 
 def table_of(kind: str, rows: List[Row]) -> List[str]:
     if kind == "taken":
-        return ["| option | serves as |", "|---|---|", *(f"| `{it.name}` | {it.here} |" for it in rows)]
-    return ["| option | supported | |", "|---|---|---|",
-            *(f"| `{it.name}` | {f'`{it.value}`' if it.value else 'none'} | {it.here} |" for it in rows if it.here)]
+        return ["| option | meaning |", "|---|---|", *(f"| `{it.name}` | {it.here} |" for it in rows)]
+    lines = ["| option | supported | |", "|---|---|---|"]
+    # Neighbours that say the same are one row.
+    for (value, here), same in itertools.groupby((it for it in rows if it.here), lambda it: (it.value, it.here)):
+        names = ", ".join(f"`{it.name}`" for it in same)
+        lines.append(f"| {names} | {f'`{value}`' if value else 'none'} | {here} |")
+    return lines
 
 
 def page_of(page: str, table: str) -> str:

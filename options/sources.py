@@ -66,7 +66,9 @@ def header_of(program: Program, made: str) -> str:
     known = [it for it in of_check if it.of("Default").isdecimal()]
     bounds += [f"#define DEFAULT_OF_{it.name[2:].upper()} {it.of('Default')}" for it in known]
     return "\n".join([
-        f"/* {made} */",
+        f"/* {made}",
+        "",
+        "   Called: options.c includes it, in the one thread of asancol-run; no lock. */",
         "#ifndef ASANCOL_RUN_OPTION_TABLE_H",
         "#define ASANCOL_RUN_OPTION_TABLE_H",
         "",
