@@ -5,7 +5,7 @@ from typing import Dict
 
 from .programs import TOP
 
-HEAD = "| class of AddressSanitizer | in a report |\n|---|---|\n"
+HEAD = "| AddressSanitizer's class | in a report |\n|---|---|\n"
 # As a row says it of classes that reports have under the same name.
 THE_SAME = "the same"
 

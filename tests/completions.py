@@ -118,7 +118,7 @@ SHELLS = {
 PAGES = (
     "man/asancol.1", "man/asancol-trace.5",
     "man/asancol-cc.1", "man/asancol-run.1", "man/asancol-report.1",
-    "man/asancol-results.5", "man/asancol-listen.1",
+    "man/asancol-results.5", "man/asancol-listen.1", "man/asancol-cargo.1",
 )
 
 
@@ -169,8 +169,8 @@ def settings_are_there(_: str) -> None:
     of_run = {"ASANCOL_REPORT", "ASANCOL_SYMBOLIZER", "ASANCOL_OUTER"}
     page = set(re.findall(r"ASANCOL_\w+", text_of("man/asancol-cc.1")))
     expect(page, known - of_run, "variables")
-    options = re.findall(r"^\.It Fl -(asancol-\w+)", text_of("man/asancol-cc.1"), re.M)
-    expect(options, re.findall(r'"--(asancol-\w+)', text_of("recorder/wrapper/command.c")), "options")
+    options = re.findall(r"^\.It Fl -(asancol-[\w-]+)", text_of("man/asancol-cc.1"), re.M)
+    expect(options, re.findall(r'"--(asancol-[\w-]+)', text_of("recorder/wrapper/command.c")), "options")
 
 
 def results_are_described(_: str) -> None:
@@ -193,8 +193,8 @@ def pages_have_no_flaw(_: str) -> None:
 
 
 def mandoc_sees_no_flaw(_: str) -> None:
-    """Mandoc warns of nothing in a page that is written in its macros."""
-    for page in filter(lambda it: ".Dd " in text_of(it), PAGES):
+    """Mandoc warns of nothing in a page."""
+    for page in PAGES:
         argv = ["mandoc", "-Tlint", "-Wwarning", page]
         ran = call(argv, cwd=TOP, stdout=subprocess.PIPE, stderr=subprocess.STDOUT, check=False)
         expect((ran.returncode, ran.stdout), (0, b""), page)
@@ -250,7 +250,7 @@ TESTS: List[Tuple[str, Callable[[str], None], Tuple[str, ...]]] = [
     ("settings", settings_are_there, ()),
     ("fields of results", results_are_described, ()),
     ("pages", pages_have_no_flaw, ("man",)),
-    ("pages in mdoc", mandoc_sees_no_flaw, ("mandoc",)),
+    ("pages and mandoc", mandoc_sees_no_flaw, ("mandoc",)),
     ("completions: syntax", files_can_be_read, ()),
     ("completions: installed", are_installed, ("cc",)),
     *((f"completions: {it}", offers(it), (it,)) for it in SHELLS),

@@ -10,6 +10,7 @@ usage: tests/lint_tree.py
 - No file is a link: `rt ci` takes no tree with one in it.
 - No test waits without a limit (`waits.py`).
 - No word stands there for which the field has another (`words.py`).
+- Each header of C says who calls it, in which thread and under which lock (`heads.py`).
 - Each edit of a mutant can be made: what it takes away stands once in its file.
 - Each lemma right in a folder `proofs` is cited. `Examples` and `Refuted` are lists of
   examples, and are left out.
@@ -19,7 +20,7 @@ usage: tests/lint_tree.py
 - No two tests have one name: of the rows, of the crates, and of `runs.py` and `failures.py`.
 - The golden rows that MODEL.md shows, the stored traces and the lemmas of `Examples` are what
   the rows of their names say (`golden.py`).
-- What a crate is for stands on its own page as in the table of ARCHITECTURE.md.
+- What a crate is for stands on its own page as in the tables of ARCHITECTURE.md and crates/README.md.
 - The files generated from the tables in `options` are as `make options` would write them.
 - The program says the release that VERSION says: it can't read the file, since it is proved.
 
@@ -38,6 +39,7 @@ sys.path.insert(0, f"{os.path.dirname(os.path.realpath(__file__))}/..")  # where
 
 import bodies
 import golden
+import heads
 import names
 import pages
 import waits
@@ -144,14 +146,16 @@ def other_options() -> Iterator[Finding]:
 
 
 def other_summaries() -> Iterator[Finding]:
-    """Goes over the crates' pages whose first sentence is not the crate's row of ARCHITECTURE.md."""
-    with open(f"{TOP}/docs/inside/ARCHITECTURE.md", encoding="utf-8") as file:
-        rows = re.findall(r"^\| \[`\w+`\]\(\.\./\.\./(crates/\w+/README\.md)\) \| (.*) \|$", file.read(), re.M)
-    for path, does in rows:
-        with open(f"{TOP}/{path}", encoding="utf-8") as file:
-            first = file.read().split("\n\n")[1].replace("\n", " ")
-        if first != f"{does[0].upper()}{does[1:]}.":
-            yield path, 3, f"docs/inside/ARCHITECTURE.md says: {does}"
+    """Goes over the crates' pages whose first sentence is not the crate's row of a table of crates."""
+    for page in ("docs/inside/ARCHITECTURE.md", "crates/README.md"):
+        with open(f"{TOP}/{page}", encoding="utf-8") as file:
+            rows = re.findall(r"^\| \[`\w+`\]\((?:\.\./\.\./crates/)?(\w+)/README\.md\) \| (.*) \|$", file.read(), re.M)
+        for crate, does in rows:
+            path = f"crates/{crate}/README.md"
+            with open(f"{TOP}/{path}", encoding="utf-8") as file:
+                first = file.read().split("\n\n")[1].replace("\n", " ")
+            if first != f"{does[0].upper()}{does[1:]}.":
+                yield path, 3, f"{page} says: {does}"
 
 
 def all_tests(sources: List[names.Source], rows: List[golden.Row]) -> Iterator[names.Test]:
@@ -173,6 +177,7 @@ def findings() -> Iterator[Finding]:
     yield from links(files)
     yield from waits.findings(files)
     yield from words.findings(files)
+    yield from heads.findings(files)
     yield from bad_edits(files)
     yield from other_release()
     yield from other_options()

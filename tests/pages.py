@@ -43,7 +43,7 @@ ELSEWHERE = {
 }
 
 PAGE = re.compile(
-    r"(?:docs/(?:inside/)?[^/]+|(?:crates/\w+|common|recorder|run)/README|README|CHANGELOG|CONTRIBUTING)\.md"
+    r"(?:docs/(?:inside/)?[^/]+|(?:crates(?:/\w+)?|common|recorder|run)/README|README|CHANGELOG|CONTRIBUTING)\.md"
 )
 # A generated file: a page may name it, but a link would lead to nothing where it is not made.
 MADE = {"docs/CALLS.md"}
@@ -213,13 +213,14 @@ def bad_cells(page: str, text: str, tree: Tree) -> Iterator[Finding]:
 
 
 def bad_targets(page: str, text: str, targets: Dict[str, Set[str]]) -> Iterator[Finding]:
-    """Goes over the targets behind `make`, in backticks or in a line of code."""
+    """Goes over the targets behind `make`, in backticks or in a line of code, except those of a recorded project."""
     in_block = False
     for number, line in enumerate(text.split("\n"), 1):
         in_block = in_block != line.startswith("```")
         code = [line.strip()] if in_block or line.startswith("    ") else SPAN.findall(line)
         for span in code:
-            for words in MAKE.findall(re.split(r"  +|#", span)[0] if "make" in span else ""):
+            is_ours = "make" in span and not span.startswith("asancol-run ")
+            for words in MAKE.findall(re.split(r"  +|#", span)[0] if is_ours else ""):
                 folder = re.search(r"-C +(\w+)", words)
                 known = targets.get(folder[1] if folder else ".", set())
                 for word in re.sub(r"-\w+ +\w+", "", words).split():

@@ -152,6 +152,16 @@ def closing(*streams):
     return lambda: [os.close(stream) for stream in streams]
 
 
+def opened_by(running, count):
+    """The descriptors of a program, once it has this many, with the paths that they stand for."""
+    folder = f"/proc/{running.pid}/fd"
+    for _ in range(PATIENCE * 100):
+        if len(os.listdir(folder)) >= count:
+            break
+        time.sleep(0.01)
+    return {int(it): os.readlink(f"{folder}/{it}") for it in os.listdir(folder)}
+
+
 def connected(what):
     """Connects a peer to the socket in this folder, once it listens."""
     for _ in range(PATIENCE * 100):

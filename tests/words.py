@@ -3,8 +3,8 @@
 GLOSSARY.md defines the new ones. The old ones occur in this table, and in proved sources, where each changed byte must
 be proved again.
 
-Pages for users have a clause where English has a noun no more often than the table of habits says, and comments in C
-and Python no more often than the table of folders.
+Pages have a clause where English has a noun no more often than the table of habits says, and comments in C and Python
+no more often than the table of folders. Sentences of pages with two semicolons or more are counted, too.
 
 usage: tests/words.py FOLDER..
 
@@ -47,7 +47,7 @@ PROVED = re.compile(r"crates/asan_laws/")
 
 
 class Habit(NamedTuple):
-    """A phrase to avoid, its replacement, and how often the pages for users may have it."""
+    """A phrase to avoid, its replacement, and how often the pages may have it."""
 
     pattern: str
     instead: str
@@ -61,15 +61,37 @@ HABITS = [
     Habit(r"but for", "except", 0),
     Habit(r"(?:of|by) which nobody", "unknown", 0),
     Habit(r"likewise", "the same", 0),
-    Habit(r"(?<!there )(?:is|are|was|were) no", "is not a", 1),
+    Habit(r"(?<!there )(?:is|are|was|were) no(?! longer|-)", "is not a", 1),
     Habit(r"so many|as many as", "at most N", 0),
     Habit(r"(?:built|compiled|linked) so", "built this way", 0),
     Habit(r"not everything was seen", "incomplete", 0),
     Habit(r"handed out again", "reused", 0),
+    Habit(r"exactly if", "exactly when", 0),
+    Habit(r"not proved (?:is|are)", "it is not proved that", 0),
+    Habit(r"of (?:a|an|the|any) [\w-]+ it (?:is|was)(?: not)? \w+", "the usual order of words", 0),
+    Habit(r"such as(?=[.;:)])", "such as, with an example after it", 0),
+    Habit(r"of which", "a sentence of its own", 0),
+    Habit(r"(?:that|those) of", "the noun", 40),
+    Habit(r"(?:so|neither|nor) (?:do|does|is|are|has|have)", "the whole sentence", 20),
 ]
-# The pages for users; headings and code are left out.
-FOR_USERS = re.compile(r"README\.md|docs/(?!DECISIONS|CALLS)[\w-]+\.md|(?:\w+/)*man/[\w+-]+\.[15]")
+# Headings and code of pages are left out.
+PAGES = re.compile(
+    r"(?:(?:common|crates|recorder|run)/)?README\.md|docs/(?:inside/)?(?!CALLS)[\w-]+\.md|(?:\w+/)*man/[\w+-]+\.[15]"
+)
 NOT_PROSE = re.compile(r"^```.*?^```|^(?: {4}|#|\.[A-Z]).*?$|`[^`]*`|\]\([^)]*\)", re.M | re.S)
+
+
+# How many sentences outside tables may have two semicolons or more.
+MOST_CHAINS = 12
+PARAGRAPH = re.compile(r"\n\s*\n|\n(?= *(?:-|\d+\.) )")
+SENTENCE = re.compile(r"(?<=[.:])\s+(?=[A-Z`*\[])")
+
+
+def chains_of(text: str) -> int:
+    """Returns how many sentences of a page, outside its tables, have two semicolons or more."""
+    prose = NOT_PROSE.sub("", re.sub(r"^\|.*$", "", text, flags=re.M))
+    sentences = [it for part in PARAGRAPH.split(prose) for it in SENTENCE.split(" ".join(part.split()))]
+    return sum(it.count(";") > 1 for it in sentences)
 
 
 def habits_of(texts: List[str]) -> Iterator[Finding]:
@@ -78,8 +100,12 @@ def habits_of(texts: List[str]) -> Iterator[Finding]:
     for habit in HABITS:
         count = len(re.findall(rf"\b(?:{habit.pattern})\b", text, re.I))
         if count > habit.at_most:
-            said = f"{count} times '{habit.pattern}' in pages for users, and at most {habit.at_most} are allowed"
+            said = f"{count} times '{habit.pattern}' in pages, and at most {habit.at_most} are allowed"
             yield "tests/words.py", 1, f"{said}: write {habit.instead}"
+    chains = sum(chains_of(it) for it in texts)
+    if chains > MOST_CHAINS:
+        said = f"{chains} sentences of pages have two semicolons or more, and at most {MOST_CHAINS} are allowed"
+        yield "tests/words.py", 1, f"{said}: write a sentence for each fact, or a list"
 
 
 # Phrases to avoid in comments too, and how many a folder may have. Lower a number when you remove one.
@@ -123,7 +149,7 @@ def too_many(habits: List[Finding]) -> Iterator[Finding]:
 
 def findings(files: List[str]) -> Iterator[Finding]:
     """Goes over the old words in the files, those in the names of files, and the habits of pages and comments."""
-    for_users: List[str] = []
+    of_pages: List[str] = []
     in_comments: List[Tuple[str, int, str]] = []
     for path in files:
         if NAMES.search(path) and not PROVED.match(path):
@@ -132,15 +158,15 @@ def findings(files: List[str]) -> Iterator[Finding]:
             continue
         with open(f"{TOP}/{path}", encoding="utf-8", errors="replace") as file:
             text = file.read()
-        if FOR_USERS.fullmatch(path):
-            for_users.append(text)
+        if PAGES.fullmatch(path):
+            of_pages.append(text)
         if folder_of(path):
             in_comments += habits_in(path, text)
         for new, pattern in PATTERNS:
             for found in pattern.finditer(text):
                 line = text.count("\n", 0, found.start()) + 1
                 yield path, line, f"{' '.join(found[0].split())}: the field's word is {new}"
-    yield from habits_of(for_users)
+    yield from habits_of(of_pages)
     yield from too_many(in_comments)
 
 

@@ -11,6 +11,7 @@ MAGIC = b"\x7fELF\x02\x01"  # 64 bits, lowest byte first
 HEADER_BYTES = 64
 SEGMENT = struct.Struct("<IIQQQQ")
 NOTE = struct.Struct("<III")
+AARCH64 = 183
 LOAD, INTERPRETER, NOTES = 1, 3, 4
 BUILD_ID = (b"GNU\0", 3)
 LINK = (b"asancol\0", 1)  # what a link by asancol-cc leaves
@@ -36,9 +37,11 @@ class Elf:
         self.build_id = ""  # in hexadecimal
         self.is_program = False
         self.is_linked = False  # by asancol-cc
+        self.machine = 0  # the number of its processor
         header = read_at(descriptor, 0, HEADER_BYTES)
         if len(header) < HEADER_BYTES or not header.startswith(MAGIC):
             return
+        self.machine, = struct.unpack_from("<H", header, 18)
         table_at, = struct.unpack_from("<Q", header, 32)
         entry_bytes, count = struct.unpack_from("<HH", header, 54)
         if entry_bytes < SEGMENT.size:

@@ -30,7 +30,9 @@ NO_PLACE = "its place was not recorded"
 NO_ALLOCATION = "before the trace began"
 # The function of Rust's library that runs `main`, a thread or a test; Rust's own stacks end there too.
 RUST_BEGINS = "__rust_begin_short_backtrace"
-LEAKS_MISSED = "leaks of a process were not looked for, as if a thread does not stop"
+LEAKS_MISSED = "leaks of a process were not looked for, such as when a thread does not stop"
+# Where the addresses of a trace end.
+ADDRESS_END = 1 << 47
 NO_MODULES = "the modules of a process are not known, as where /proc is not there: its places are addresses"
 
 LEAK_KINDS = (FINDING_LEAK, FINDING_INDIRECT_LEAK)
@@ -330,8 +332,14 @@ def finding_alone(sighting: Sighting, run: int) -> Finding:
     return finding
 
 
+def whole(address: int, fault: Optional[Fault]) -> int:
+    """Returns an address of a trace, which has 47 bits, as the process has it: a fault has all bits."""
+    return address if fault is None else address | fault.start & ADDRESS_END
+
+
 def finding_of(report: Line, fault: Optional[Fault]) -> Finding:
-    finding = Finding(report.class_name, report.access, report.size, report.address, report.bad)
+    address, bad = whole(report.address, fault), report.bad if report.bad is None else whole(report.bad, fault)
+    finding = Finding(report.class_name, report.access, report.size, address, bad)
     finding.shadow = report.shadow
     finding.block = block_of(fault)
     if fault is not None:
@@ -342,7 +350,7 @@ def finding_of(report: Line, fault: Optional[Fault]) -> Finding:
         finding.allocator = fault.name if fault.variable == VARIABLE_NONE else ""
         if fault.size and report.access in ("load", "store"):
             finding.size = fault.size
-            if fault.start <= report.address < fault.start + fault.size:
+            if fault.start <= address < fault.start + fault.size:
                 finding.address, finding.bad = fault.start, finding.bad_byte
     return finding
 

@@ -8,9 +8,9 @@ lines.
 from __future__ import annotations
 
 import os
-from typing import Dict, List, NamedTuple, Optional, Tuple
+from typing import Callable, Dict, List, NamedTuple, Optional, Tuple
 
-from .elf import Elf
+from .elf import AARCH64, Elf
 from .reading import is_regular, open_regular, read_at
 from .running import GIVEN
 from .side import Mapping
@@ -18,18 +18,36 @@ from .side import Mapping
 Identity = Tuple[int, int]
 
 
-# mov $15, %rax; syscall: sigreturn.
-RETURN_FROM_HANDLER = b"\x48\xc7\xc0\x0f\0\0\0\x0f\x05"
-MAX_CALL_LENGTH = 7
-# How many bytes a call by a register or memory may have, without its prefix.
+# How many bytes a call by a register or memory may have on x86-64, without its prefix.
 INDIRECT_CALLS = (2, 3, 4, 6, 7)
+# Calls of aarch64: to a distance, by a register, and by one whose signature is checked.
+ARM_CALLS = ((0xfc000000, 0x94000000), (0xfffffc1f, 0xd63f0000), (0xfefff800, 0xd63f0800))
 
 
 def is_call(code: bytes) -> bool:
-    """Whether the last bytes of code are a call: e8 and a distance, or ff /2."""
+    """Whether the last bytes of code are a call on x86-64: e8 and a distance, or ff /2."""
     if code[-5:-4] == b"\xe8":
         return True
     return any(code[-n:-n + 1] == b"\xff" and code[-n + 1] >> 3 & 7 == 2 for n in INDIRECT_CALLS if n <= len(code))
+
+
+def is_arm_call(code: bytes) -> bool:
+    """Whether the last bytes of code are a call on aarch64."""
+    word = int.from_bytes(code[-4:], "little")
+    return any(word & mask == call for mask, call in ARM_CALLS)
+
+
+class Processor(NamedTuple):
+    """How code of a processor calls, and how a signal handler returns."""
+
+    is_call: Callable[[bytes], bool]
+    max_call_length: int
+    return_from_handler: bytes
+
+
+# mov $15, %rax; syscall. mov x8, #139; svc #0.
+X86_64 = Processor(is_call, 7, b"\x48\xc7\xc0\x0f\0\0\0\x0f\x05")
+PROCESSORS = {AARCH64: Processor(is_arm_call, 4, b"\x68\x11\x80\xd2\x01\0\0\xd4")}
 
 
 class Name(NamedTuple):
@@ -92,9 +110,10 @@ class Module:
         if self.descriptor < 0:
             return True
         if in_file not in self.calls:
-            length = MAX_CALL_LENGTH + len(RETURN_FROM_HANDLER)
-            code = read_at(self.descriptor, max(in_file + 1 - MAX_CALL_LENGTH, 0), length)
-            self.calls[in_file] = is_call(code[:MAX_CALL_LENGTH]) or code[MAX_CALL_LENGTH:] == RETURN_FROM_HANDLER
+            by = PROCESSORS.get(self.elf.machine, X86_64) if self.elf else X86_64
+            before, after = by.max_call_length, by.return_from_handler
+            code = read_at(self.descriptor, max(in_file + 1 - before, 0), before + len(after))
+            self.calls[in_file] = by.is_call(code[:before]) or code[before:] == after
         return self.calls[in_file]
 
     def close(self) -> None:

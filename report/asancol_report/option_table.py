@@ -2,7 +2,7 @@
 
 HELP = """\
 usage: asancol-report [options] RESULT.jsonl...
-           merges results of asancol-run --json; of a folder, all that are in it
+           merges results of asancol-run --json; a folder: all results in it
        asancol-report [options] --trace A.trace...
            checks traces, and reads A.trace.where
 Output files:
@@ -19,7 +19,7 @@ Text:
   --source-root DIR    show files under DIR by their paths from there
   --color WHEN         colors: auto, always or never (auto)
   --full-stacks        print all frames of a stack, and whole names
-  --shadow             print the shadow bytes round each bad byte
+  --shadow             print the shadow bytes around each bad byte
   --unchecked HOW      unchecked code: list, no or error (list)
   --no-machines        omit names of machines and times of runs
   -q, --quiet          print nothing if all is clean
@@ -37,9 +37,9 @@ Others:
   --run                read from asancol-run on standard input
   -h, --help           print this help
   --version            print the name and the release
-A FILE - is standard output; the text is left out then.
+A FILE - is standard output, instead of the text.
 Status: 0 no report counts; 1 a report counts; 2 the command line was refused;
-        3 not everything was seen; 4 a file was not read to its end, or written
+        3 incomplete, or nothing recorded; 4 a file could not be read or written
 """
 OUTPUTS = {
     "--json": "json_lines",

@@ -59,7 +59,7 @@ def take(options: Options, name: str, rest: List[str], value: str, has_value: bo
             options.outputs.append((name, value))
         options.values[name] = value
     else:
-        raise Refused(f"there is no option {name}{closest(name)}")
+        raise Refused(f"unknown option {name}{closest(name)}")
 
 
 def read(argv: List[str]) -> Options:

@@ -91,12 +91,12 @@ def trace_ends(folder: str) -> None:
         ("closed", side(events=9, is_at_limit=True), 3, "reached the event limit, and was not seen to end"),
         ("no-close", side(ending=3, signal=6, events=9, has_begun=0), 3,
          "INCOMPLETE: ended by SIGABRT before main"),
-        ("closed", side(events=9, has_checks=0), 3, "INCOMPLETE: no code of it was compiled by asancol-cc"),
-        ("closed", side(events=9, starts=1), 3, "ended in a call of the recorder's own, or before an exec"),
+        ("closed", side(events=9, has_checks=0), 3, "INCOMPLETE: none of its code was compiled by asancol-cc"),
+        ("closed", side(events=9, starts=1), 3, "ended in a system call of the recorder, or before an exec"),
         ("no-close", side(ending=0, needed=9), 3, "INCOMPLETE: its trace ended as no-close"),
         ("closed", side(events=9, quarantine=5), 0, "held back 5 bytes of freed memory (ASANCOL_QUARANTINE)"),
-        ("closed", side(events=9, used_again=1234567890), 0, "all complete\nasancol: process 7 ./program: handed out "
-         "freed memory again after 1.2 GB of blocks, so later uses after free may be missed\n"),
+        ("closed", side(events=9, used_again=1234567890), 0, "all complete\nasancol: process 7 ./program: reused "
+         "freed memory after 1.2 GB of blocks, so later uses after free may be missed\n"),
         ("no-close", side(ending=3, signal=6, events=10), 3, "INCOMPLETE: its trace ended as no-close"),
         ("no-close", side(ending=4, events=9), 3, "INCOMPLETE: its recording ended early"),
         ("too-many", side(left_out=21, events=9), 3, "reached the event limit: 21 of 30 events were not recorded"),
@@ -139,7 +139,7 @@ def memory_that_came_again(folder: str) -> None:
         write_trace(folder, f"{name}.trace", "p0 end closed events 9 offset 99 reports 0\n", parts)
         report(folder, "--trace", f"{name}.trace", "--json", f"{name}.jsonl")
     ran = report(folder, "a.jsonl", "b.jsonl", "--json", "both.jsonl", "--html", "page", "--sarif", "out.sarif")
-    line = "process 7 ./program: handed out freed memory again after 6.8 MB of blocks"
+    line = "process 7 ./program: reused freed memory after 6.8 MB of blocks"
     expect((ran.status, ran.out.count(line)), (0, 1), ran.out)
     with open(f"{folder}/both.jsonl", encoding="utf-8") as file:
         processes = [it for it in map(json.loads, file) if it["type"] == "process"]
@@ -154,7 +154,7 @@ def memory_that_came_again(folder: str) -> None:
 @report_test
 def trace_of_a_killed_process(folder: str) -> None:
     """After its last record there are zeros. Another code there, or an end that is known, is a damaged trace."""
-    abrupt = "ended abruptly, as by SIGKILL, or an _exit or exec in a library, or still running"
+    abrupt = "ended abruptly, such as by SIGKILL, or by an _exit or exec in a library, or still running"
     damaged = "its trace ended as malformed code"
     for parts, rest, why in (
         (side(ending=0), bytes(4000), abrupt), (side(ending=0), b"\0\0\1", abrupt), (None, bytes(4000), abrupt),
@@ -204,7 +204,7 @@ def trace_has_failures(folder: str) -> None:
     for argv, settings, text in (
         (["no.trace"], NO_SETTINGS, "no.trace: No such file or directory"),
         (["a.trace"], {"ASANCOL": "/nonexistent/asancol"},
-         "/nonexistent/asancol: the program that checks is not there"),
+         "/nonexistent/asancol: the checker is missing"),
         (["a.trace"], {"ASANCOL": "/bin/false"}, "a.trace: its checker printed no verdict, and ended with status 1"),
     ):
         ran = report(folder, "--trace", *argv, **settings)
@@ -501,7 +501,7 @@ def text_does_nothing_to_a_terminal(folder: str) -> None:
 def words_are_refused(folder: str) -> None:
     for argv, text in (
         ((), "no file was named"),
-        (["--jsn", "x", "y"], "there is no option --jsn; did you mean --json?"),
+        (["--jsn", "x", "y"], "unknown option --jsn; did you mean --json?"),
         (["a.jsonl", "--json"], "--json needs a value"),
         (["--json", "--", "a.jsonl"], "--json needs a value"),
         (["a.jsonl", "--quiet=1"], "--quiet takes no value"),

@@ -247,6 +247,17 @@ def shadow_is_shown(folder: str) -> None:
 
 
 @report_test
+def an_address_has_all_bits(folder: str) -> None:
+    """A trace has 47 of them, and the fault all."""
+    program, top = build(folder), 1 << 47
+    faults = [fault(program.places["use"], top + 0x2000, 5, access=(top + 0x2005, 1))]
+    write_trace(folder, "a.trace", OVERFLOW + END, of_program(program, faults, [0, 1]))
+    ran = report(folder, "--trace", "a.trace", "--json", "a.jsonl")
+    expect_in(ran.out, "0x800000002005 is 0 bytes past the end of a block of 5 bytes")
+    expect(report(folder, "a.jsonl").out, ran.out, "read again")
+
+
+@report_test
 def fifty_places_are_shown(folder: str) -> None:
     faults = [fault(0x1000 + 16 * number, 0x2000 + 64 * number, 5) for number in range(60)]
     lines = "".join(OVERFLOW.replace("#2", f"#{n + 1}").replace("2005", f"{0x2005 + 64 * n:x}") for n in range(60))

@@ -8,7 +8,7 @@ import time
 import refused_calls
 from program import (
     CUT, FAR_APART, PAST_THE_END, PATIENCE, SOUND, TWICE_FREED, Served, ending_of, holds,
-    lines_of_each, past_the_end, prepared, put, same, sound, with_refused, without_threads,
+    lines_of_each, opened_by, past_the_end, prepared, put, same, sound, with_refused, without_threads,
 )
 from testing import test
 from testing.traces import CLOSE, closed, free
@@ -103,8 +103,8 @@ def each_thread_that_does_not_start(program):
 
 @test
 def one_pipe_on_one_thread(program):
-    """There is one thread while a trace comes through a pipe. With --live each report is read while
-    its process still runs."""
+    """While a trace comes through a pipe, there is one thread, and only the pipe is open beside the standard streams.
+    With --live each report is read while its process still runs."""
     os.mkfifo("pipe")
     report, end = past_the_end().encode().splitlines(keepends=True)
     second, end = report.replace(b"#2", b"#3"), end.replace(b"2 offset 36 reports 1", b"3 offset 46 reports 2")
@@ -120,6 +120,8 @@ def one_pipe_on_one_thread(program):
                 if "--live" in argv:
                     same(argv, running.stdout.readline(), line)
             same(argv, os.listdir(f"/proc/{running.pid}/task"), [str(running.pid)])
+            opened = opened_by(running, 4)
+            same(argv, (sorted(opened), opened.get(3)), ([0, 1, 2, 3], os.path.realpath("pipe")))
             pipe.write(CLOSE)
         output, _ = running.communicate(timeout=PATIENCE)
         Served.running.remove(running)

@@ -3,12 +3,13 @@
 import fcntl
 import os
 import pty
+import subprocess
 
 import golden
 import long_trace
 from program import (
-    CUT, PAST_THE_END, SOUND, closing, cut, lines_of_each, past_the_end, put, same,
-    same_lines, sound,
+    CUT, PAST_THE_END, PATIENCE, SOUND, Served, closing, cut, lines_of_each, opened_by, past_the_end,
+    prepared, put, same, same_lines, sound,
 )
 from testing import test
 from testing.traces import HEADER, HEADER_2, closed, free, load, malloc, poison
@@ -212,3 +213,17 @@ def closed_streams(program):
         same(streams, ran, (4, b"", b""))
     ran = program.run(["check", "--verbose", "past", "sound"], before=closing(0, 2))
     same("check --verbose", ran, (1, (past_the_end(0) + sound(1)).encode(), b""))
+
+
+@test
+def folders_for_closed_streams(program):
+    """A folder is in the place of each standard stream that was closed, as long as the program runs."""
+    os.mkfifo("pipe")
+    argv = [program.path, "check", "pipe"]
+    running = subprocess.Popen(argv, preexec_fn=prepared(closing(0, 1, 2)))
+    Served.running.append(running)
+    with open("pipe", "wb"):
+        opened = opened_by(running, 4)
+    same(argv, opened, {0: "/", 1: "/", 2: "/", 3: os.path.realpath("pipe")})
+    same(argv, running.wait(timeout=PATIENCE), 4)
+    Served.running.remove(running)
