@@ -99,9 +99,13 @@ docs/CALLS.md: recorder/calls/calls.def recorder/tests/calls_page.py recorder/te
 
 # Small programs under each compiler that is there, recorded and checked. Tests that need a compiler, an AddressSanitizer
 # or a symbolizer that is not there are left out, and it says which. With SANITIZE=1 its parsers and its stream also run
-# under the compilers' own sanitizers. With REST=1 it leaves out what `make test` has run.
+# under the compilers' own sanitizers. With REST=1 it leaves out what `make test` has run. With TARGET=aarch64 it runs
+# those of programs for ARM alone, with ARM_DRAWS drawn bugs beside AddressSanitizer's reports of them.
+ARM_DRAWS := 300
+
 check-recorder: asancol recorder run
-	$(if $(SANITIZE),SANITIZE=1) recorder/tests/check.py $(if $(REST),--rest) ./asancol
+	$(if $(SANITIZE),SANITIZE=1) $(if $(TARGET),ARM_DRAWS=$(ARM_DRAWS)) recorder/tests/check.py $(if $(REST),--rest) \
+	    ./asancol $(if $(TARGET),arm:)
 
 # What parses strangers' words, objects, formats, settings and messages, in the recorder and in asancol-run: libFuzzer
 # draws inputs for each of them, for so many seconds.

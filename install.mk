@@ -6,10 +6,10 @@ ROOT := $(DESTDIR)$(PREFIX)
 # Where zsh looks depends on who installs: a Debian package has a folder for itself.
 ZSH_FUNCTIONS ?= $(PREFIX)/share/zsh/site-functions
 
-# $(call install-page,PAGE): with the release in its foot, in man's macros or in mdoc's.
+# $(call install-page,PAGE): with the release in its foot.
 define install-page
 install -d $(ROOT)/share/man/man$(subst .,,$(suffix $1))
-sed -e '/^\.TH/s/"asancol"/"asancol $(VERSION)"/' -e 's/^\.Os asancol$$/& $(VERSION)/' $1 > $(ROOT)/share/man/man$(subst .,,$(suffix $1))/$(notdir $1)
+sed 's/^\.Os asancol$$/& $(VERSION)/' $1 > $(ROOT)/share/man/man$(subst .,,$(suffix $1))/$(notdir $1)
 chmod 644 $(ROOT)/share/man/man$(subst .,,$(suffix $1))/$(notdir $1)
 endef
 
