@@ -28,6 +28,9 @@ from .expectations import LeftOut
 from .programs import CC, SOON, TOP, compilers_there
 from .watch import Watch, kill_all
 
+# Before the name of a test that failed beside others, and passed alone.
+ALONE = "passed alone: "
+
 HAS_TESTS = re.compile(r"^(?:def tests\(|@\w*test$)", re.M)
 # What no XML may have.
 NO_XML = re.compile("[^\t\n\x20-\ud7ff\ue000-\ufffd\U00010000-\U0010ffff]")
@@ -102,6 +105,7 @@ class Suite:
     words, all are chosen."""
 
     most = 64  # that run at a time
+    most_again = 3  # of those that failed are run once more
 
     def __init__(self, words: Sequence[str] = ()) -> None:
         self.words = words
@@ -201,16 +205,32 @@ class Suite:
             print(f"no test has a name with {' or '.join(self.words)}: --list prints the names", flush=True)
         self.prepare()
         shared = dict.fromkeys(it for test in chosen for it in test.arguments if isinstance(it, Later))
-        with self.watch, self.executor() as pool:
-            for each in shared:
-                pool.submit(each.made)
-            running: List["Future[Result]"] = [pool.submit(self.run_test, test) for test in chosen]
-            try:
-                for ended in as_completed(running):
-                    self.take(ended.result())
-            except BaseException:
-                pool.shutdown(cancel_futures=True)
-                raise
+        with self.watch:
+            with self.executor() as pool:
+                for each in shared:
+                    pool.submit(each.made)
+                running: List["Future[Result]"] = [pool.submit(self.run_test, test) for test in chosen]
+                try:
+                    for ended in as_completed(running):
+                        self.take(ended.result())
+                except BaseException:
+                    pool.shutdown(cancel_futures=True)
+                    raise
+            self.run_again(chosen)
+
+    def run_again(self, chosen: Sequence[Test]) -> None:
+        """Runs once more what has failed, if it is little and no test was asked for by name, now that nothing runs
+        beside it: so no deadline passes because the machine is busy. What passes alone counts as passed, and is
+        named."""
+        failed = {it.name: it for it in self.results if it.wrong}
+        if self.words or len(failed) > self.most_again:
+            return
+        for test in (it for it in chosen if it.name in failed):
+            with self.executor() as pool:
+                again = pool.submit(self.run_test, test).result()
+            if not again.wrong:
+                print(f"{ALONE}{test.name}", flush=True)
+                self.results[self.results.index(failed[test.name])] = again
 
     def take(self, result: Result) -> None:
         """Keeps a result, and says it if the test has not passed."""

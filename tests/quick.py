@@ -42,9 +42,11 @@ import gate
 from files import TOP
 from testing import environment
 from testing.programs import killed_after
+from testing.suite import ALONE
 
 COUNTS = re.compile(r"(\d+) passed[,;] (\d+) failed")
 LEFT_OUT = re.compile(r"^left out: (.*)$", re.M)
+PASSED_ALONE = re.compile(rf"^{ALONE}.*$", re.M)
 # Lines that tell nothing of a failure.
 NO_FAILURE = re.compile(r"left out: |test .* ok$")
 
@@ -126,6 +128,8 @@ class Results:
         if failed:
             lines = [it for it in ran.printed.splitlines() if not NO_FAILURE.match(it)]
             print("\n".join(lines)[-TAIL:], flush=True)
+        else:
+            print("".join(f"{name}: {it}\n" for it in PASSED_ALONE.findall(ran.printed)), end="", flush=True)
         said = f"{passed} passed, {failed} failed, {len(left_out)} skipped"
         times = f"{time.monotonic() - began:.0f} s, {ran.seconds:.0f} s of processors"
         print(f"{name}: {times}, {said if counts or failed else 'done'}", flush=True)

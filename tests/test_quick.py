@@ -99,6 +99,26 @@ tests.run_all()"""
     expect_in(ran.stdout, "FAILED waits for nothing: it hangs", "0 passed, 1 failed\n")
 
 
+def failed_test_runs_again(_: str) -> None:
+    """A test that fails beside others and passes alone is named and counts as passed, unless many fail."""
+    for count, passed in ((3, 3), (4, 0)):
+        began: List[str] = []
+        tests = Suite()
+        for number in range(count):
+            name = f"number {number}"
+
+            def fails_at_first(_: object, folder: str, name: str) -> None:
+                began.append(name)
+                expect(began.count(name), 2, name)
+
+            tests.test(name, fails_at_first, name)
+        said = io.StringIO()
+        with contextlib.redirect_stdout(said):
+            tests.run_all()
+        expect(sum(1 for it in tests.results if not it.wrong), passed, "those that passed")
+        expect("passed alone: number 1\n" in said.getvalue(), passed > 0, said.getvalue())
+
+
 def late_program_is_killed(_: str) -> None:
     """A program that takes too long is killed with all that it has started, and it is said what each was at."""
     began, said = time.monotonic(), ""
@@ -177,6 +197,7 @@ TESTS: List[Tuple[str, Callable[[str], None], Tuple[str, ...]]] = [
     ("make test: counts", parts_are_counted, ()),
     ("make test: what is left running", left_running_is_not_waited_for, ()),
     ("make test: what hangs", hanging_test_fails, ()),
+    ("make test: what fails beside others", failed_test_runs_again, ()),
     ("make test: what takes too long", late_program_is_killed, ()),
     ("make test: what tests leave", left_thread_fails, ()),
     ("make test: the rule", quick_ones_and_the_rest_are_all, ()),
