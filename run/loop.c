@@ -6,6 +6,7 @@
 
 #include <dirent.h>
 #include <errno.h>
+#include <inttypes.h>
 #include <poll.h>
 #include <signal.h>
 #include <stdio.h>
@@ -53,6 +54,7 @@ static const double LOOK = 1;        /* between looks at the remaining processes
 static const double SHORTAGE = 0.05; /* until a shortage is tried again */
 static const double LAST = 30;       /* after the last cut, until the rest is left alone */
 static const double PROGRESS = 2;    /* until there is a line of progress */
+static const double LIFE = 10;       /* until the first line while the command runs */
 static const double LINGER = 0.3;    /* until a served program is answered while others of it run on */
 static const double TOGETHER = 0.5;  /* within which two signals are one: the sender's, and that to our process group */
 
@@ -65,6 +67,7 @@ static struct {
     double wait_from;           /* --wait counts from here */
     double timeout_at, kill_at; /* 0: never */
     double short_until, look_at, progress_at, attend_at;
+    double life_after; /* how long it has run at the next line on that */
     double signalled; /* when the last signal came */
     bool is_left;     /* something that the command has started */
     bool has_timed_out;
@@ -443,6 +446,23 @@ static void attend_served(double time)
     run.attend_at = time + (serving_is_asked() ? SHORTAGE : LOOK);
 }
 
+/* A whole line, since the command may write to the terminal too. The next one comes after twice the time. */
+static void show_life(double time)
+{
+    const struct process *process;
+    double lived = time - run.started;
+    if (run.ended != 0 || lived < run.life_after)
+        return;
+    run.life_after = 2 * lived;
+    uint64_t reports = 0;
+    for (size_t at = 0; (process = process_next(&at)) != NULL;)
+        reports += segments_joined(process).reports;
+    size_t live = segment_live_count(), all = segments_process_count(), checked = all > live ? all - live : 0;
+    progress_line("asancol: still running after %.0f seconds: %zu process%s checked, %zu running, %" PRIu64
+                  " report%s so far",
+                  lived, checked, plural(checked, "es"), live, reports, plural(reports, "s"));
+}
+
 static void show_progress(double time)
 {
     if (run.ended == 0 || time < run.ended + PROGRESS || time < run.progress_at)
@@ -462,6 +482,7 @@ static double do_due(void)
         stop_command(time);
     if (is_killing && run.timeout_at < next)
         next = run.timeout_at;
+    show_life(time);
     if (run.ended == 0)
         return next > time ? next - time : 0;
     size_t done = process_count() - segment_live_count();
@@ -578,6 +599,7 @@ struct collected loop_run(const struct options *options, pid_t command, int sign
     run.command = run.command_number = command;
     run.signals = signals;
     run.started = now();
+    run.life_after = LIFE;
     run.timeout_at = options->timeout > 0 ? run.started + options->timeout : 0;
     hold_processes();
     modules_allow(run.descriptors / 4);

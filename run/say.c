@@ -120,19 +120,32 @@ void progress_allow(void)
     is_progress_allowed = isatty(STDERR_FILENO) && terminal != NULL && *terminal != 0 && strcmp(terminal, "dumb") != 0;
 }
 
+/* Writes a line to the terminal, whole or up to its end. Answers whether it stands there. */
+static bool show(const char *end, const char *form, va_list rest)
+{
+    char text[160];
+    int length = is_progress_allowed ? vsnprintf(text, sizeof text - strlen(end), form, rest) : -1;
+    if (length < 0)
+        return false;
+    progress_erase();
+    strcat(text, end);
+    return write_all(STDERR_FILENO, text, strlen(text));
+}
+
 void progress(const char *form, ...)
 {
     va_list rest;
-    char text[80];
-    if (!is_progress_allowed)
-        return;
     va_start(rest, form);
-    int length = vsnprintf(text, sizeof text, form, rest);
+    is_progress_shown = show("", form, rest);
     va_end(rest);
-    if (length < 0)
-        return;
-    progress_erase();
-    is_progress_shown = write_all(STDERR_FILENO, text, strlen(text));
+}
+
+void progress_line(const char *form, ...)
+{
+    va_list rest;
+    va_start(rest, form);
+    show("\n", form, rest);
+    va_end(rest);
 }
 
 void progress_erase(void)

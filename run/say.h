@@ -36,5 +36,7 @@ double now(void);
 void progress_allow(void);
 void progress(const char *form, ...) __attribute__((format(printf, 1, 2)));
 void progress_erase(void);
+/* One that stays there. */
+void progress_line(const char *form, ...) __attribute__((format(printf, 1, 2)));
 
 #endif

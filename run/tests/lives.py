@@ -232,6 +232,13 @@ def check_progress(suite: Suite, folder: str) -> None:
         expect_ran(at_terminal(suite, argv, b"", 0.1, TERM=terminal), 99, absent=["waiting"])
 
 
+def check_life(suite: Suite, folder: str) -> None:
+    """A line on the terminal while a long command runs."""
+    argv = [RUN, "--", "sh", "-c", f"{suite.program} sound; {suite.program} sleeps 11"]
+    text = "asancol: still running after 10 seconds: 1 process checked, 1 running, 0 reports so far\r\n"
+    expect_ran(at_terminal(suite, argv, b"", 0.1), 0, text)
+
+
 def state_of(number: int) -> str:
     """The letter by which the system says what a process does."""
     with open(f"/proc/{number}/stat", encoding="utf-8") as text:
@@ -376,6 +383,7 @@ def tests(suite: Suite) -> None:
     suite.test("Ctrl-C is sent once", check_interrupt_is_sent_once)
     suite.test("Ctrl-C with a report", check_interrupt_with_report)
     suite.test("progress", check_progress)
+    suite.test("progress while the command runs", check_life)
     suite.test("stop and continue", check_stop)
     suite.test("SIGKILL of asancol-run", check_hub_is_killed)
     suite.test("200 processes, 64 descriptors", check_crowd, 200, 64)
