@@ -189,15 +189,14 @@ class Gatherer:
         return Places(place, allocated, freed, function)
 
     def calls(self, side: Side, after_calls: Tuple[int, ...], has_names: bool = True) -> Calls:
-        """Returns the places of calls, from the addresses after them. The first address that no call precedes ends
-        them: code without frame pointers may have led there."""
-        places: List[CodeAddress] = []
-        for address in after_calls:
-            place = self.place(side, address, has_names)
-            if places and (place.module is None or not place.module.is_after_call(place.in_file)):
-                break
-            places.append(place)
-        return tuple(places)
+        """Returns the places of calls, from the addresses after them. An address that no call precedes is an
+        instruction that a signal has interrupted, if the next one follows a call, and else the end: code without frame
+        pointers may have led there."""
+        places = [self.place(side, address, has_names) for address in after_calls]
+        follow_calls = [it.module is not None and it.module.is_after_call(it.in_file) for it in places]
+        pairs = zip(follow_calls[1:], [*follow_calls[2:], False])
+        ends = (number for number, pair in enumerate(pairs, 1) if not any(pair))
+        return tuple(places[:next(ends, len(places))])
 
     def place(self, side: Side, after_call: int, has_names: bool = True) -> CodeAddress:
         """Returns the place of a call, from the address after it. If somebody wants its names, they are looked up."""

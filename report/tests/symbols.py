@@ -124,16 +124,19 @@ def copies_have_the_name(folder: str) -> None:
 
 @report_test
 def stacks_have_callers(folder: str) -> None:
-    """A stack ends with main, or where no call is. One that is cut, too long or of another place is none."""
+    """A stack ends with main, or where no call is, except for one instruction that a signal has interrupted. One that
+    is cut, too long or of another place is none."""
     program = build(folder)
     use, make, drop = (program.places[name] for name in ("use", "make", "drop"))
     main, libc = use, 0x700000000000  # in main, which has inlined use; and one in no module
-    words = [0, 3, make, main, libc, 4, drop, make, main, make, 2, drop, libc, 40, drop, main, 3, drop, main + 1, make]
+    words = [0, 3, make, main, libc, 4, drop, make, main, make, 2, drop, libc, 40, drop, main, 3, drop, main + 1, make,
+             3, drop, main + 1, main + 1]
     for stacks, wanted in (
         ((10, 1, 0), ["drop", "make", "main"]),  # that of the access ends at once, that of the malloc in main
         ((5, 0, 0), ["drop", "make", "main", "make"]),  # what has called main is left out
         ((13, 0, 0), ["drop", "make"]),  # 40 frames
-        ((16, 0, 0), ["drop", "make"]),  # after no call
+        ((16, 0, 0), ["drop", "main", "make"]),  # one after no call
+        ((20, 0, 0), ["drop", "make"]),  # two
         ((1, 0, 0), ["drop", "make"]),  # another place's
         ((99, 1 << 31, 0), ["drop", "make"]),  # past the end
     ):
