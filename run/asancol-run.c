@@ -2,7 +2,9 @@
 
    Each process connects to a socket of this program, the hub. Its connection becomes the standard input of an asancol,
    its checker, or is moved into a file for one that several share: no byte of a trace is read here. common/README.md
-   says what a process sends, and the manual page says what a user sees. */
+   says what a process sends, and the manual page says what a user sees.
+
+   Called: by the system, in the one thread of asancol-run; no lock. */
 #define _GNU_SOURCE
 #include <errno.h>
 #include <inttypes.h>

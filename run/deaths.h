@@ -1,6 +1,6 @@
 /* How processes have ended, also those that said nothing themselves.
 
-   Called: by verdict.c, marks.c, asancol-run.c and loop.c, in the one thread of asancol-run; no lock. */
+   Called: by verdict.c, marks.c, serving.c, asancol-run.c and loop.c, in the one thread of asancol-run; no lock. */
 #ifndef ASANCOL_RUN_DEATHS_H
 #define ASANCOL_RUN_DEATHS_H
 

@@ -1,6 +1,7 @@
 /* Processes that are to be here, by what others say: children of a fork, and what a process became by an exec.
 
-   Called: by asancol-run.c, once, at the end, in the one thread of asancol-run; no lock. */
+   Called: kin_look by asancol-run.c, once, at the end, and kin_awaits_child by loop.c, in the one thread of
+   asancol-run; no lock. */
 #ifndef ASANCOL_RUN_KIN_H
 #define ASANCOL_RUN_KIN_H
 

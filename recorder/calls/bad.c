@@ -1,4 +1,6 @@
-/* What the checks of calls record; no state of its own. Called as calls.h says. */
+/* What the checks of calls record; no state of its own.
+
+   Called: as calls.h says. */
 #include <errno.h>
 
 #include "calls/calls.h"

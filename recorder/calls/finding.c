@@ -1,8 +1,8 @@
 /* What dlsym answers. It goes by its caller, so it is called from the object that asks. Who asks for a function by its
    name may ask for any.
 
-   Called: by the program, in the thread that calls dlsym or dlvsym. Lock: the C library takes the loader's in these, so
-   the caller has none of the recorder's. */
+   Called: by the program, in the thread that calls dlsym or dlvsym, not in a signal handler. Lock: the C library takes
+   the loader's in these, and ask_instead_of does, so the caller has none of the recorder's. */
 #define _GNU_SOURCE
 #include <dlfcn.h>
 

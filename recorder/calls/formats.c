@@ -1,6 +1,7 @@
 /* The formats of printf and scanf, as accesses of memory. A walk ends where it does not know what follows: at positions
-   (%1$d), and at conversions that the program has registered. struct conversion is what a walk is at. Called as calls.h
-   says. */
+   (%1$d), and at conversions that the program has registered. struct conversion is what a walk is at.
+
+   Called: as calls.h says. */
 #include <limits.h>
 #include <stdarg.h>
 #include <stdio.h>

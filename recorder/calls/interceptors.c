@@ -5,8 +5,10 @@
    A program that has the function itself may call the other name in it. It comes past its own function then: to the C
    library's, without a check, or to the allocator.
 
-   One member of the library, that comes in only if it is asked for. Called as stubs.h says; `next_functions`, with the
-   functions after the program's, is filled by a constructor, in one thread. */
+   One member of the library, that comes in only if it is asked for.
+
+   Called: as stubs.h says; `next_functions`, with the functions after the program's, is filled by a constructor, in one
+   thread, not in a handler: it takes the loader's lock for a moment. */
 #include "base/processor_stubs.h"
 #include "libc/library.h"
 #include "shadow/mapping.h"

@@ -1,7 +1,8 @@
 /* A library that is opened later has its place in the map of modules, and may have another malloc than the program.
 
-   Called: by the program's dlopen and dlmopen, in the thread that opens, with no lock of the recorder's: the C library
-   takes the loader's, and constructors of the library run. */
+   Called: by the program's dlopen and dlmopen, in the thread that opens, not in a signal handler, with no lock of the
+   recorder's: the C library takes the loader's, and constructors of the library run. Then note_deeply_bound takes the
+   loader's for a moment, and note_modules_changed that and then the stream's. */
 #define _GNU_SOURCE
 #include <dlfcn.h>
 

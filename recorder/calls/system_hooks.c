@@ -1,8 +1,9 @@
 /* What sanitizer/linux_syscall_hooks.h declares. A program that calls the system by itself tells AddressSanitizer so
    what the call reads and writes. Here it has no effect: such a call is not looked at.
 
-   One member of the library, that comes in only if it is asked for. Called by the program, in any thread, without a
-   lock: nothing is done. */
+   One member of the library, that comes in only if it is asked for.
+
+   Called: by the program, in any thread, also in a signal handler, without a lock: nothing is done. */
 #include "base/platform.h"
 #include "base/processor_stubs.h"
 

@@ -1,5 +1,7 @@
 /* Memory that a call gives to the system. Where it is not there the system answers EFAULT, and no check may read it.
-   given.c knows. Called as calls.h says. */
+   given.c knows.
+
+   Called: as calls.h says. */
 #include "calls/calls.h"
 #include "interface/hooks.h"
 #include "process/given.h"

@@ -2,7 +2,7 @@
    itself (group.c) and uses some of them. A call that is clean leaves no record, and errno is as the function leaves
    it.
 
-   Called: as those of rows.h, in any thread, without a lock. A helper has the same rules as a check. */
+   Called: as rows.h says. A helper has the same rules as a check. */
 #ifndef ASANCOL_WORDS_H
 #define ASANCOL_WORDS_H
 

@@ -1,10 +1,10 @@
 /* What the options of AddressSanitizer say for this process: by ASAN_OPTIONS and LSAN_OPTIONS, and by functions that
    the program may have. common/asan_options.def lists them.
 
-   Called: asan_options_read and then say, level and hold by settings.c, in the thread that starts the recorder, once.
-   After that asan_options_check_call by the stream, in any thread, also in a signal handler; and asan_options_lines by
-   unchecked.c, with the lock of the stream. Lock: none of its own: nothing is written after the start. Nothing is
-   allocated. */
+   Called: asan_options_read and then say, level and hold by settings.c, in the thread that starts the recorder, once,
+   not in a handler: they call the program. After that asan_options_check_call by the stream, in any thread, also in a
+   signal handler; and asan_options_lines by unchecked.c, with the lock of the stream. Lock: none of its own: nothing is
+   written after the start. Nothing is allocated. */
 #ifndef ASANCOL_ENVIRONMENT_ASAN_OPTIONS_H
 #define ASANCOL_ENVIRONMENT_ASAN_OPTIONS_H
 

@@ -1,9 +1,10 @@
 /* Questions to the socket that listens beside a hub. A process that has lost its environment gets its settings there;
    one that is not recorded says so.
 
-   Called: by orphan.c and hub_word.c, and connect_patiently and is_trusted by the stream (output.c), in programs and in
-   shared objects; in any thread, also in a signal handler. Lock: it takes none; the caller may have the allocator's and
-   the stream's, and keeps them for as long as it waits. Nothing is allocated. */
+   Called: by orphan.c and hub_word.c, is_asked_at by own_run.c, ask_for by root.c, and connect_patiently and is_trusted
+   by the stream (output.c), in programs and in shared objects; in any thread, also in a signal handler. Lock: it takes
+   none; the caller may have the allocator's and the stream's, and keeps them for as long as it waits. Nothing is
+   allocated. */
 #ifndef ASANCOL_ASKING_H
 #define ASANCOL_ASKING_H
 

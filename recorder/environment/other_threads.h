@@ -1,7 +1,7 @@
 /* Whether a process has other threads, as the system says.
 
-   Called: by world.c in the search for leaks (with the loader's and the allocator's lock), by ending.c, and by
-   library.c in a forked child; in any thread, also in a signal handler. Lock: it takes none: it makes calls of the
+   Called: by world.c in the search for leaks (with the loader's and the allocator's lock), by ending.c and root.c, and
+   by library.c in a forked child; in any thread, also in a signal handler. Lock: it takes none: it makes calls of the
    system alone, and keeps nothing. */
 #ifndef ASANCOL_OTHER_THREADS_H
 #define ASANCOL_OTHER_THREADS_H

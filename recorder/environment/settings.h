@@ -1,8 +1,9 @@
 /* What the environment says.
 
-   Called: settings_read by process.c, in the thread that starts the recorder, once; settings_hub there, and by
-   mapping.c if there is no room for the shadow. Lock: none: process.c keeps the settings, and changes `trace` and
-   `is_full` later, with the allocator's lock. Others read them, in any thread. */
+   Called: settings_read by process.c, in the thread that starts the recorder, once, not in a signal handler;
+   settings_hub there, and by mapping.c in the only thread, before the process ends because its shadow has no room.
+   Lock: none: process.c keeps the settings, and changes `trace` and `is_full` later, with the allocator's lock. Others
+   read them, in any thread, also in a handler. */
 #ifndef ASANCOL_SETTINGS_H
 #define ASANCOL_SETTINGS_H
 

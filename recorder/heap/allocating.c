@@ -1,6 +1,9 @@
 /* The allocator, as the process calls it. Blocks are in slots of units, or in runs of units (placing.h); which of them
    are handed out, and what happens to them, shards.h and quarantine.h say. Each call tries the thread's own shard
-   (.._quickly), and then all (.._slowly). */
+   (.._quickly), and then all (.._slowly).
+
+   Called: as heap.h says; heap_allocate, heap_give_back and heap_move as blocks.h does. No lock is held: heap_enter
+   (entering.h) takes the thread's shard, or all. */
 #define _GNU_SOURCE
 #include "heap/heap.h"
 

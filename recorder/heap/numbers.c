@@ -1,6 +1,6 @@
 /* What the allocator has as a whole: by the notes on all units, with all (blocks.h). No state of its own.
 
-   Called: what heap.h and blocks.h declare of it; see there. heap_is_poisoned and heap_keep_call_sites take no lock:
+   Called: as heap.h says, and heap_for_each as blocks.h does. heap_is_poisoned and heap_keep_call_sites take no lock:
    the second runs with the allocator's. */
 #define _GNU_SOURCE
 #include "heap/entering.h"

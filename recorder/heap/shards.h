@@ -14,8 +14,8 @@
    (side_note_reuse).
 
    Called: by allocating.c, freeing.c, entering.c and quarantine.c, in the thread that is in this shard, or with all
-   (blocks.h). Lock: none further; central is taken here where units are. shard_take and shard_give with the gate;
-   shards_are_left in a forked child. */
+   (blocks.h). Lock: none further; central is taken here where units are. shards_give_back also by numbers.c, with all.
+   shard_take and shard_give with the gate; shards_are_left in a forked child. */
 #ifndef ASANCOL_SHARDS_H
 #define ASANCOL_SHARDS_H
 

@@ -1,8 +1,9 @@
 /* What a loaded object says of its names, in the tables that the loader reads. The tables are not checked: the loader
    has believed them.
 
-   Called: by library.c, preload_choice.c, plain.c and odr.c, in the thread that starts the recorder or loads a library.
-   Lock: it takes none, and only reads: the caller has the loader's, or there is one thread. */
+   Called: by library.c, preload_choice.c, plain.c and odr.c, in the thread that starts the recorder or loads a library,
+   or that looks for a function (library_next), there also in a signal handler. Lock: it takes none, and only reads: the
+   caller has the loader's, or there is one thread. */
 #ifndef ASANCOL_OBJECTS_H
 #define ASANCOL_OBJECTS_H
 

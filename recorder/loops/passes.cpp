@@ -3,7 +3,9 @@
    AddressSanitizer's pass comes last, or just before loops are vectorized (-sanitizer-early-opt-ep). Where it comes
    last, a copy is made before loops are vectorized, so that it is, too. The vectorizer passes on few marks, such as
    groups of accesses: our own group becomes the mark that AddressSanitizer's pass heeds just before that comes. Two
-   accesses that become one are in a group only if both were, so a mark that is lost costs a check, and no report. */
+   accesses that become one are in a group only if both were, so a mark that is lost costs a check, and no report.
+
+   Called: by LLVM, in the compiler's one thread; no lock. */
 #include <llvm/Analysis/AssumptionCache.h>
 #include <llvm/Analysis/VectorUtils.h>
 #include <llvm/Config/llvm-config.h>

@@ -6,7 +6,9 @@
      calls, which have checks.
 
    What has no checks all the same goes into the object, in lines of a section that links keep: how many functions were
-   compiled without any, by an attribute, and intrinsics that are not known. The wrapper has it from there (taken.c). */
+   compiled without any, by an attribute, and intrinsics that are not known. The wrapper has it from there (taken.c).
+
+   Called: by GCC, in its one thread; no lock. */
 #include "plugin/checks.hpp"
 
 #include <cstdio>

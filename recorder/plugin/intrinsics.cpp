@@ -1,4 +1,6 @@
-/* Intrinsics that are functions of the compiler's with a pointer: GCC's pass sees no access in them. */
+/* Intrinsics that are functions of the compiler's with a pointer: GCC's pass sees no access in them.
+
+   Called: by gcc.cpp, in GCC's one thread; no lock. */
 #include "plugin/checks.hpp"
 
 #include <cstring>

@@ -1,7 +1,8 @@
 /* A shared object of asancol-cc in a program that has no recorder, or that of another release.
 
-   Called: by a constructor of that object (callbacks.c), in the thread that loads it, with the loader's lock. It takes
-   no lock of its own. Here the C library is called as by any library: there is no recorder of ours to be disturbed. */
+   Called: by a constructor of that object (callbacks.c), in the thread that loads it, not in a signal handler, with the
+   loader's lock. It takes no lock of its own. Here the C library is called as by any library: there is no recorder of
+   ours to be disturbed. */
 #ifndef ASANCOL_FOREIGN_H
 #define ASANCOL_FOREIGN_H
 

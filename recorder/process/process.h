@@ -6,8 +6,9 @@
    recorder_finish, recorder_exit and recorder_before_exec by the program's calls, recorder_finish_in_handler by
    signals.c in a handler; the handlers of a fork by the C library; and the questions by anybody. Lock: the caller has
    none of the recorder's, but a handler may have interrupted the allocator: then no recording begins. What begins a
-   recording takes the allocator's and then the stream's (README.md has the order), what ends one the stream's alone; a
-   question takes none. Nothing is allocated. */
+   recording takes the allocator's and then the stream's (README.md has the order), what ends one the stream's, and
+   recorder_before_exec keeps the allocator's; before these an exit, an exec and a fork take the loader's for a moment.
+   A question takes none. Nothing is allocated. */
 #ifndef ASANCOL_PROCESS_H
 #define ASANCOL_PROCESS_H
 

@@ -1,8 +1,9 @@
 /* The end of a program that has a run of its own (own_run.h): it waits until the verdict is printed, and ends with the
    status of the run.
 
-   Called: when nothing is recorded any more, in the thread that ends the process, also in a handler. No lock: it
-   asks over a connection of its own. */
+   Called: root_end by signals.c, root_end_at_exit by start.c and hooks.c, when nothing is recorded any more, in the
+   thread that ends the process, also in a handler. Lock: the caller has none; root_end_at_exit holds the allocator's
+   while other threads stand still. It asks over a connection of its own. */
 #ifndef ASANCOL_ROOT_H
 #define ASANCOL_ROOT_H
 

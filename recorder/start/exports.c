@@ -1,5 +1,8 @@
 /* The preloaded recorder has names of the C library: these, which lead where preload_choice.c says. A call comes here
-   with whatever its caller has given it, and its caller stays the caller. */
+   with whatever its caller has given it, and its caller stays the caller.
+
+   Called: by all that calls such a name, in any thread, also in a signal handler, from before the first constructor on.
+   No lock is taken here; preload_choice.h has the first call of each name. */
 #include "base/platform.h"
 #include "base/processor_stubs.h"
 #include "process/preload_choice.h"

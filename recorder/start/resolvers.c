@@ -1,5 +1,7 @@
 /* Counts the relocations of the program that ask a resolver, before any of them is called: its tables are read as they
-   lie in the file. */
+   lie in the file.
+
+   Called: as preinit.h says. */
 #define _GNU_SOURCE
 #include "start/preinit.h"
 

@@ -1,8 +1,8 @@
 /* The beginning of a stream: where it goes, and its header.
 
    Called: stream_begin and stream_forget by process/process.c, with the allocator's lock: in the thread that starts the
-   recorder, where no other thread is in the stream, or in a forked child. The rest by switching.c, in the thread that
-   switches, with the stream's lock. */
+   recorder or begins late, there perhaps in a signal handler, where no other thread is in the stream, or in a forked
+   child. The rest by switching.c, in the thread that switches, with the stream's lock. */
 #ifndef ASANCOL_OPENING_H
 #define ASANCOL_OPENING_H
 

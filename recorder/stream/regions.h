@@ -1,8 +1,9 @@
 /* Records of regions: blocks, and poison.
 
    Called: for blocks by heap/ with the allocator's lock (all, heap/blocks.h), for poison by record.c and stating.c
-   without it, in any thread, also in a handler. No lock here: a record takes its place by an addition (writing.h).
-   Past the limit of events places.c takes the locks for a new segment. */
+   without it, record_here by heap/book.c and watched.c with it, in any thread, also in a handler. No lock here: a
+   record takes its place by an addition (writing.h). Past the limit of events places.c takes the locks for a new
+   segment. */
 #ifndef ASANCOL_REGIONS_H
 #define ASANCOL_REGIONS_H
 

@@ -8,7 +8,7 @@
    does in its own places.
 
    Called: by record.h, regions.c, watched.c and places.c, in the thread whose record it is, also in a handler; no lock.
-   put_code and put_number also by keeping.c, with the stream's lock, for what stands at the end. */
+   put_code also by holes.c, and by keeping.c, with put_number and the stream's lock, for what stands at the end. */
 #ifndef ASANCOL_WRITING_H
 #define ASANCOL_WRITING_H
 

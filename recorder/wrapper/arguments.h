@@ -1,6 +1,7 @@
 /* Reads the arguments of a command line, and those of its response files, as a compiler reads them. It changes none.
 
-   Called: by asancol-cc.c and compiling.c, in the one thread of the wrapper; no lock. */
+   Called: arguments_take by asancol-cc.c, is_sanitizer by that and by compiling.c, in the one thread of the wrapper; no
+   lock. */
 #ifndef ASANCOL_ARGUMENTS_H
 #define ASANCOL_ARGUMENTS_H
 

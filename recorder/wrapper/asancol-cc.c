@@ -6,8 +6,8 @@
    (taken.c). The name by which it is called says for which languages it is (fronts.def). All that is known of the run
    is gathered in a struct job (job.h).
 
-   The files of this folder are a program of their own, which has one thread and may call all of the C library. Its only
-   signal handler is pass_on in running.c. */
+   Called: by the system. The files of this folder are a program of their own, which has one thread and no lock, and may
+   call all of the C library. Its only signal handler is pass_on in running.c. */
 #define _GNU_SOURCE
 #include <stdio.h>
 #include <sys/auxv.h>
