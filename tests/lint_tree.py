@@ -10,7 +10,7 @@ usage: tests/lint_tree.py
 - No file is a link: `rt ci` takes no tree with one in it.
 - No test waits without a limit (`waits.py`).
 - No word stands there for which the field has another (`words.py`).
-- Each header of C says who calls it, in which thread and under which lock (`heads.py`).
+- Each head of a C file says who calls, in which thread, in a handler or not, and under which lock (`heads.py`).
 - Each edit of a mutant can be made: what it takes away stands once in its file.
 - Each lemma right in a folder `proofs` is cited. `Examples` and `Refuted` are lists of
   examples, and are left out.

@@ -23,18 +23,29 @@ CONSTANT = set("_GLOBAL_OFFSET_TABLE_ _DYNAMIC __ehdr_start main asancol_checks 
 # Of the C library, which is called by address: variables, what only looks something up, and a call of the system's.
 SAFE = {"__libc_single_threaded", "__libc_stack_end", "environment", "_dl_find_object", "clock_gettime", "sigaction"}
 
-# Not in a handler: the start of the process, its threads, its end, and the calls of the program that are wrapped or
-# replaced.
-ELSEWHERE = ("environment/settings.o", "environment/asan_options.o", "process/threads.o", "process/plain.o", "calls/",
-             "libc/", "heap/allocation.o")
-AT_THE_START_OR_END = {
+# What these call besides: at the start of the process and its end, for its threads and libraries, or for a call of the
+# program's. The head of each says which of its functions a handler may call (tests/heads.py).
+BESIDES = {
+    "environment/asan_options.o": {"__lsan_default_options", "__lsan_default_suppressions"},
+    "environment/settings.o": {"LLVMFuzzerTestOneInput"},
+    "heap/allocation.o": {"fputs", "stderr_stream"},
     "interface/odr.o": {"dlsym", "dlvsym", "dlerror"},
     "leaks/leaks.o": {"dl_iterate_phdr"},
-    "leaks/roots.o": {"dl_iterate_phdr", "_dl_get_tls_static_info", "_thread_db_sizeof_pthread"},
+    "leaks/roots.o": {"dl_iterate_phdr", "_dl_get_tls_static_info"},
+    "libc/library.o": {"dl_iterate_phdr", "vsnprintf", "stderr_stream", "optind", "_dl_get_tls_static_info",
+                       "_thread_db_sizeof_pthread"},
+    "process/plain.o": {"dl_iterate_phdr", "dlsym", "dlvsym", "vsnprintf", "__start_asancol_stubs",
+                        "__stop_asancol_stubs"},
     "process/process.o": {"__register_atfork"},
-    "start/start.o": {"__cxa_atexit", "__cxa_at_quick_exit", "_IO_flush_all", "exit", "on_exit"},
+    "process/threads.o": {"pthread_attr_destroy", "pthread_attr_getstacksize", "pthread_getattr_default_np",
+                          "pthread_key_create", "pthread_setspecific"},
     "process/unchecked.o": {"dlerror", "dlsym"},
+    "start/start.o": {"__cxa_atexit", "__cxa_at_quick_exit", "_IO_flush_all", "exit", "on_exit"},
 }
+# The checks of calls: each calls the function that the program has called, in a handler too where that may be.
+CHECKS_OF_CALLS = "calls/"
+# Made of the others.
+WHOLE = ("all.o", "checks.o")
 
 
 def names(object_file: str, *which: str) -> Set[str]:
@@ -52,17 +63,15 @@ def own_names(object_file: str) -> Set[str]:
 
 
 def objects() -> List[str]:
-    """Returns the objects of which all.o is made, by their names in `out`."""
-    with open(f"{RECORDER}/Makefile", encoding="utf-8") as file:
-        beside = re.findall(r"out/program/([\w/]+\.o)", file.read())
+    """Returns the objects of which all.o is made and those beside it, by their names in `out`."""
     found = sorted(glob.glob(f"{OUT}/**/*.o", recursive=True))
-    return [it for it in (os.path.relpath(path, OUT) for path in found) if it not in beside]
+    return [it for it in (os.path.relpath(path, OUT) for path in found) if it not in WHOLE]
 
 
 def called_by_address(part: str) -> Set[str]:
     """Returns what a source takes of the table of the C library's functions."""
     with open(f"{RECORDER}/{part[:-2]}.c", encoding="utf-8") as file:
-        return set(re.findall(r"\blibrary\.(\w{2,})", file.read()))
+        return set(re.findall(r"(?<!>)\blibrary\.(\w{2,})", file.read()))
 
 
 def unsafe_names() -> Iterator[str]:
@@ -72,10 +81,9 @@ def unsafe_names() -> Iterator[str]:
     for part in parts:
         allowed |= own_names(f"{OUT}/{part}")
     for part in parts:
-        if not part.startswith(ELSEWHERE):
-            by_address = called_by_address(part) - SAFE - AT_THE_START_OR_END.get(part, set())
-            there = names(f"{OUT}/{part}", "--undefined-only") - allowed - SAFE
-            yield from (f"{part}: {name}" for name in sorted(there | by_address))
+        if not part.startswith(CHECKS_OF_CALLS):
+            called = names(f"{OUT}/{part}", "--undefined-only") | called_by_address(part)
+            yield from (f"{part}: {name}" for name in sorted(called - allowed - SAFE - BESIDES.get(part, set())))
 
 
 def check_handlers(suite: Suite, folder: str) -> None:
