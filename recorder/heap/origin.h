@@ -1,8 +1,8 @@
 /* For whom the next malloc or free of this thread is: the caller that stands for it, and the operator of C++.
 
    Called: by allocating.c, freeing.c and entering.c in the thread that allocates or frees. `said` is written before, in
-   the same thread, by heap_called_from and its like (heap.h), which checks and operators call. No lock: it is
-   thread-local. */
+   the same thread, by heap_called_from and its like (heap.h), which checks and operators call; a handler that allocates
+   in between takes it. No lock: it is thread-local. */
 #ifndef ASANCOL_ORIGIN_H
 #define ASANCOL_ORIGIN_H
 

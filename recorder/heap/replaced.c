@@ -1,8 +1,9 @@
 /* What the process calls. They are weak: a program with its own allocator keeps it. `rows` says what dlsym answers.
 
    Called: by the program and all of its libraries, the C library too, in any thread, also in a handler, from before the
-   first constructor on. No lock is held: heap_allocate, heap_give_back and heap_move (blocks.h) take them. errno is the
-   program's, and set as the C library would. */
+   first constructor on; heap_is_below by unchecked.c, heap_function_behind by plain.c. No lock is held: heap_allocate,
+   heap_give_back, heap_move (blocks.h) and heap_live_size take them. errno is the program's, and set as the C library
+   would. */
 #define _GNU_SOURCE
 #include <errno.h>
 #include <malloc.h>

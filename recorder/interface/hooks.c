@@ -1,7 +1,7 @@
 /* The table that shared objects find in the program, `asancol_hooks`.
 
-   Called: the functions of this file itself by the program's dlopen and _exit, in any thread, with no lock of the
-   recorder's. */
+   Called: modules_changed by the program's dlopen, not in a signal handler, and finish_at_exit by its _exit, also in
+   one; in any thread, with no lock of the recorder's: both take the loader's and then the stream's for a moment. */
 #define _GNU_SOURCE
 #include "interface/hooks.h"
 

@@ -1,7 +1,7 @@
 /* Families of functions that allocate.
 
-   Called: by the allocator (heap) and the reports (stream, process), in any thread, also in a signal handler. Lock:
-   none: there are only constants. */
+   Called: by the allocator (heap) and the reports (stream, process, leaks), in any thread, also in a signal handler.
+   Lock: none: there are only constants. */
 #ifndef ASANCOL_FAMILY_H
 #define ASANCOL_FAMILY_H
 

@@ -1,12 +1,13 @@
 /* The C library: where its code lies, whose functions are checked when they are called, and those of its functions that
    the recorder calls for itself. A program may have any name for itself, so these are found by address.
 
-   Called: library_begin by start.c, mapping.c and preload_choice.c at the first call, before there is another thread;
-   what it found is read in any thread, also in a signal handler, and called as README.md says. Lock: none of its own.
-   library_find, _next, _first, _has, _look_again and _generation take the loader's for a moment, so their callers have
-   none of the recorder's; of these a handler calls _next, _first and _generation alone. library_go_without_lock and
-   library_leave_unchecked are called by process.c, with the allocator's; the latter in any thread and in a handler,
-   once nothing is recorded any more. */
+   Called: library_begin by start.c, mapping.c and preload_choice.c, and library_find by mapping.c, at the first call,
+   before there is another thread; library_look_again by hooks.c; _next, _first and _has by whoever replaces or looks
+   for a function (process/, interceptors.c), _generation by process.c. `library` is read in any thread, also in a
+   signal handler, and called as README.md says. Lock: none of its own. library_find, _next, _first, _has, _look_again
+   and _generation take the loader's for a moment, so their callers have none of the recorder's; of these a handler
+   calls _next, _first and _generation alone. library_go_without_lock and library_leave_unchecked are called by
+   process.c, with the allocator's; the latter in any thread and in a handler, once nothing is recorded any more. */
 #ifndef ASANCOL_LIBRARY_H
 #define ASANCOL_LIBRARY_H
 

@@ -3,10 +3,10 @@
    Called: by the program's calls (by hooks.def; stack_frames_left also by process.c), in the thread that the stack is
    of, also in a signal handler; and stack_has_frame and stack_is_own_frame by the stream, through `above` (state.h), in
    the thread with the fault. threads_visit_waiting by roots.c while all other threads stand still;
-   thread_function_behind by plain.c. Of the C library's functions that are replaced here, the jumps and the throws may
-   come in a handler, pthread_create and thrd_create not. Lock: none: a thread's data are its own, and tables that
-   threads share are atomic; but each replaced function takes the loader's for a moment at its first call
-   (library_next). Nothing is allocated. */
+   thread_function_behind by plain.c. The C library calls what begins and ends a thread, in that thread. Of the C
+   library's functions that are replaced here, the jumps and the throws may come in a handler; pthread_create and
+   thrd_create may not. Lock: none: a thread's data are its own, and tables that threads share are atomic; but each
+   replaced function takes the loader's for a moment at its first call (library_next). Nothing is allocated. */
 #ifndef ASANCOL_THREADS_H
 #define ASANCOL_THREADS_H
 

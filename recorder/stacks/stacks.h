@@ -1,9 +1,10 @@
 /* Stacks of calls. Each is kept once, and a call site stands for it: a word that is kept where an address would be. So
    a block needs no more room for the stack of its malloc than for its caller.
 
-   Called: by heap/ for each malloc and free, by stream/ for faults and findings, and by process/ and interface/, in any
-   thread, also in a handler, with or without locks. No lock here: words and the table are atomic (stacks.c). It
-   allocates nothing, and calls the system only for memory that may be gone. stacks_begin by start/start.c. */
+   Called: by heap/ for each malloc and free, by stream/ for faults and findings, and by process/, leaks/ and
+   interface/, in any thread, also in a handler, with or without locks. No lock here: words and the table are atomic
+   (stacks.c). It allocates nothing, and calls the system only for memory that may be gone. stacks_begin by
+   start/start.c. */
 #ifndef ASANCOL_STACKS_H
 #define ASANCOL_STACKS_H
 
