@@ -1,5 +1,6 @@
-/* Feeds asancol-report: one message for each process that has ended. It is started when there is something to report,
-   and takes the descriptors of a process with reports as soon as that has ended.
+/* Feeds asancol-report: a message for each segment that is done, and for each process again when its data have changed.
+   It is started when there is something to report, and takes the descriptors of a process with reports as soon as that
+   has ended.
 
    Called: by asancol-run.c, loop.c, checkers.c, kin.c and marks.c, in the one thread of asancol-run; no lock. */
 #ifndef ASANCOL_RUN_REPORT_H

@@ -174,8 +174,7 @@ static bool take_settings(const char *hub, const char *why)
         given.in_the_way = NULL;
     else if (given.in_the_way != other_user)
         given.in_the_way = "it was started without ASANCOL_HUB in its environment, and the run did not answer";
-    if (length < 0)
-        given.text[0] = 0;
+    given.text[length > 0 ? length : 0] = 0; /* an earlier answer may have been longer */
     return length > 0 || length == -ETIMEDOUT; /* else another one's may come, whose mark is the same */
 }
 

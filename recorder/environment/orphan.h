@@ -2,9 +2,10 @@
    not to be believed. It finds the run by what it has inherited (common/inherited.h).
 
    Called: orphan_ask by own_run.c and process.c, then orphan_value by settings.c and own_run.c, in the thread that
-   starts the recorder. orphan_say by process.c and mapping.c in that thread, by foreign.c in the thread that loads an
-   object, and if the recorder is preloaded in the first thread that executes checks, perhaps in a signal handler. Lock:
-   it takes none: the answer of the run is written by orphan_ask alone. Nothing is allocated. */
+   starts the recorder, not in a signal handler. orphan_say by process.c and mapping.c in that thread, by foreign.c in
+   the thread that loads an object, and if the recorder is preloaded in the first thread that executes checks, perhaps
+   in a signal handler. Lock: it takes none: the answer of the run is written by orphan_ask alone. Nothing is allocated.
+   */
 #ifndef ASANCOL_ORPHAN_H
 #define ASANCOL_ORPHAN_H
 

@@ -1,6 +1,7 @@
 /* A unit goes from closed to retired, given back and forgotten; or, if half of its slots were freed, to a list from
-   which it is opened again. Regions count their units that are retired and forgotten. All but the counts in a unit is
-   changed with central. */
+   which it is opened again. Regions count their units that are retired and forgotten. The lists, the counts of regions
+   and the returned units are changed with central. `left` and `form` of a unit are atomic: its shard opens and closes
+   it, and whoever frees its last block retires it, without central. */
 #define _GNU_SOURCE
 #include "heap/retiring.h"
 
@@ -70,6 +71,7 @@ static uint32_t take_oldest(void)
     return unit;
 }
 
+/* A shard may be making it a slab just now. */
 static uint32_t units_of(const struct unit *unit)
 {
     return NOTE_NOW(unit->kind) == UNIT_RUN ? NOTE_NOW(unit->count) : 1;

@@ -1,8 +1,8 @@
 /* What happens to units whose blocks are freed for good (shards.h).
 
-   Called: by shards.c and reusing.c, in the thread that is in its shard or has all (blocks.h). Lock: central where a
-   function says so; the others take it here. retiring_has and retiring_forgot by book.c and nearest.c, in any thread,
-   also in a handler, without a lock. */
+   Called: by shards.c and reusing.c, in the thread that is in its shard or has all (blocks.h), also in a handler that
+   is let in (entering.h), for a unit of any shard. Lock: central where a function says so; the others take it here.
+   retiring_has and retiring_forgot by book.c and nearest.c, in any thread, also in a handler, without a lock. */
 #ifndef ASANCOL_RETIRING_H
 #define ASANCOL_RETIRING_H
 

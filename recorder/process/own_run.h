@@ -1,7 +1,8 @@
 /* ASANCOL_RUN: a program that finds no run starts one for itself, which is asancol-run with the program's words.
 
    Called: own_run_begin by start.c and own_run_say by process.c, in the thread that starts the recorder, not in a
-   signal handler. Lock: none is held, and there is no other thread yet. Memory comes from the system alone. */
+   signal handler. Lock: none is held, and there is no other thread yet. Memory comes from the system alone,
+   and nothing of the C library is called: it may not be ready. */
 #ifndef ASANCOL_OWN_RUN_H
 #define ASANCOL_OWN_RUN_H
 

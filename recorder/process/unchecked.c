@@ -236,7 +236,7 @@ static bool has_address(const struct map_line *line, const void *address)
 /* A module whose file is mapped from this line on. */
 static void add_module(struct list *list, const struct map_line *first)
 {
-    static AS_TABLE char text[LINK_NOTE_ROOM + 1]; /* the lock is held */
+    static AS_TABLE char text[LINK_NOTE_ROOM + 1]; /* of who lists */
     struct module module;
     struct name name = name_of(first);
     if (has_address(first, &asancol_link_note)) {

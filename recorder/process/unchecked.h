@@ -3,7 +3,8 @@
    Called: unchecked_start by start.c, once, while there is one thread. unchecked_note_malloc by the program's dlopen
    (by hooks.def), in the thread that opens the library, not in a handler, with no lock of the recorder's: it asks the
    loader. unchecked_list and unchecked_state by the stream (modules.c), through the table `above` (state.h), with the
-   lock of the stream: in any thread, also in a signal handler. Nothing is allocated. */
+   lock of the stream, or as a stream begins with the allocator's, while no other thread is in the stream: in any
+   thread, also in a signal handler. Nothing is allocated. */
 #ifndef ASANCOL_UNCHECKED_H
 #define ASANCOL_UNCHECKED_H
 

@@ -13,7 +13,8 @@
    near costs nothing, and a stream that begins later begins with a map of zeros.
 
    Called: by compiled code, which reads and writes it, and by any file, in any thread, also in a handler. No lock: who
-   writes owns the memory, and who reads may see the byte before or after. shadow_note_file by shadow/unused.c alone. */
+   writes owns the memory, and who reads may see the byte before or after. shadow_note_file by shadow/unused.c alone,
+   with the allocator's lock. */
 #ifndef ASANCOL_SHADOW_H
 #define ASANCOL_SHADOW_H
 
@@ -200,6 +201,7 @@ static inline bool shadow_is_clean(uint64_t address, uint64_t size)
 void shadow_clear(uint64_t address, uint64_t size) OWN_NAME(shadow_clear);
 /* By the rules of a poison and an unpoison (docs/inside/MODEL.md). Other threads see them on return. */
 void shadow_poison(uint64_t address, uint64_t size, unsigned char code) OWN_NAME(shadow_poison);
+/* By interface/variables.c as a scope begins, and by stream/record.c after a record; heap/paint.h paints blocks. */
 void shadow_unpoison(uint64_t address, uint64_t size) OWN_NAME(shadow_unpoison);
 /* The first byte of a region that is not addressable, or its end. */
 uint64_t shadow_first_bad(uint64_t address, uint64_t size);

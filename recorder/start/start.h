@@ -1,9 +1,10 @@
 /* The recorder's start.
 
-   Called: by first_call.c, or by stream/places.c for a bad access before that (`above`, stream/state.h), in the only
-   thread, not in a signal handler; it is done once. Lock: none is held; the allocator's is taken while the stream is
-   opened. What it registers for the end the C library calls, in the thread that exits; if that exits in a handler, this
-   is no less safe than exit itself. */
+   Called: asancol_start by first_call.c, or by stream/places.c (`above`, stream/state.h) for a bad access, poison, a
+   finding, a malloc or a free before that, in the only thread, not in a signal handler. It is done once: at a malloc or
+   free, when this thread is in the allocator, only the C library is looked for, and it is tried again. Lock: none is
+   held else; the allocator's is taken while the stream is opened. What it registers for the end the C library calls, in
+   the thread that exits; if that exits in a handler, this is no less safe than exit itself. */
 #ifndef ASANCOL_START_H
 #define ASANCOL_START_H
 

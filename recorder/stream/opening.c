@@ -1,4 +1,5 @@
-/* Fills `locked` and `plan` in the state STARTING: first the trace, then the side memory, then the header. */
+/* Fills `locked` and `plan`: first the trace, then the side memory, then the header. The state is STARTING at
+   the start, OFF where a recording begins late or in a forked child, and SWITCHING for a next segment. */
 #define _GNU_SOURCE
 #include "stream/opening.h"
 

@@ -1,8 +1,9 @@
 /* The beginning of a stream: where it goes, and its header.
 
-   Called: stream_begin and stream_forget by process/process.c, with the allocator's lock: in the thread that starts the
-   recorder or begins late, there perhaps in a signal handler, where no other thread is in the stream, or in a forked
-   child. The rest by switching.c, in the thread that switches, with the stream's lock. */
+   Called: stream_begin by process/process.c, with the allocator's lock and not the stream's: in the thread that starts
+   the recorder or begins late, where no other thread is in the stream, or in a forked child. stream_forget there in a
+   forked child, with both locks, which its parent took for the fork. Each except the first start perhaps in a signal
+   handler. The rest by these two, and by switching.c in the thread that switches, with both locks. */
 #ifndef ASANCOL_OPENING_H
 #define ASANCOL_OPENING_H
 
@@ -22,7 +23,8 @@ void stream_forget(void);
 bool opening_side(struct output *side, const struct output *trace, unsigned number);
 /* The header goes to a hub at once, and the side memory with it. Answers null, or what went wrong. */
 const char *opening_hub(const struct settings *settings);
-/* Forgets the opened output. */
+/* Forgets the opened output: of a hub that was not reached, of a recording that ends at a switch, or of the parent in a
+   child. */
 void opening_take_back(void);
 /* A stream begins in the output that is open. */
 void opening_segment(void);

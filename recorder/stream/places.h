@@ -17,8 +17,8 @@ bool stream_wake(void) OWN_NAME(stream_wake);
 void record_too_late(bool is_bad) OWN_NAME(record_too_late);
 /* An access that has taken its place by this cursor. */
 void record_access_slowly(uint64_t cursor, unsigned code_and_width, uint64_t address) OWN_NAME(record_access_slowly);
-/* The place of a record of this many bytes, or null if none is recorded. `is_of_heap`: the allocator records it, and is
-   in order, so that the stream may go on in its next segment here. */
+/* The place of a record of this many bytes, or null if none is recorded. `is_of_heap`: the allocator records it, and
+   the thread has all of it, so that the stream may go on in its next segment here. */
 unsigned char *stream_reserve(unsigned length, bool is_of_heap);
 /* The same for a record that has taken its place by this cursor. If the stream goes on in its next segment, it is
    another cursor. */

@@ -1,8 +1,9 @@
 /* What a socket or a pipe is given, before the end.
 
-   Called: sending_begin by opening.c and sending_push by growing.c, with the stream's lock; the rest by watched.c,
-   regions.c and process/process.c after a record, in any thread, also in a handler, without it: they take it if it is
-   free, and wait a while for it at an exit alone. sending_try by growing.c too. */
+   Called: sending_begin by opening.c and sending_push by growing.c, with the stream's lock. The rest in any thread,
+   also in a handler, without it: they take it if it is free, and wait a while for it at an exit alone. sending_is_cut
+   by watched.c before a bad access or free is looked at; stream_look_at_clock by watched.c, regions.c and
+   process/process.c after a record; stream_hang_up by process/root.c; sending_try by growing.c too. */
 #ifndef ASANCOL_SENDING_H
 #define ASANCOL_SENDING_H
 
@@ -12,8 +13,9 @@
 void sending_begin(void);
 /* Gives it the whole pieces, as far as it takes them, or everything. Answers null, or what went wrong. */
 const char *sending_push(bool all);
-/* Whether the process has closed the descriptor, so that it is better to go on in another segment now; for a
-   free, with the allocator in order, or for an access. */
+/* Whether the process has closed the descriptor, so that it is better to go on in another segment now. `is_of_heap`:
+   all of the allocator is the caller's, as at a bad free. Else a thread that is inside the allocator gets false, since
+   a handler has interrupted it there. */
 bool sending_is_cut(bool is_of_heap);
 /* Makes the calls that a send makes, with nothing to do: a sandbox may end the process at one of them, and then it is
    known that the recorder made it. */

@@ -140,7 +140,7 @@ struct above {
     bool (*start)(void);
     /* Says that a child is not recorded, which no fork has announced. */
     void (*say_child)(void);
-    /* Adds to a list what this map of modules has that was not checked. The lock is held. */
+    /* Adds to a list what this map of modules has that was not checked (process/unchecked.h has the locks). */
     void (*list_unchecked)(char *list, const char *maps);
     /* What else that list is made of: it is another number if the list may be another one. */
     uint64_t (*unchecked_state)(void);

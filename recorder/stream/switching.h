@@ -17,10 +17,10 @@ bool switching_takes_snapshot(void);
 /* The place of a record of a snapshot, or null. */
 unsigned char *switching_reserve(unsigned length);
 /* Goes on in the next segment, if this one is full or its connection is closed, and no other thread has done so. False:
-   another thread is turning the stream off just now. Any thread, with the allocator in order. */
+   another thread is turning the stream off just now. Any thread, with all of the allocator. */
 bool switching_go_on(void);
-/* Goes on in the next segment at any number of events. False: there is none, and will be none. The allocator is locked,
-   and in order. */
+/* Goes on in the next segment at any number of events. False: there is none, and will be none. The thread has all of
+   the allocator. */
 bool switching_begin_anew(void);
 
 #endif

@@ -34,7 +34,7 @@ void linked_look_at(struct linked *linked, const char *path);
 /* Whether a compiler has made this assembly, or bitcode, with calls before accesses. */
 bool linked_is_marked_text(const char *path);
 enum origin linked_origin(struct view view);
-/* Whether it is a shared object. */
+/* Whether it is a shared object, or a position-independent program, which no link takes. */
 bool linked_is_library(struct view view);
 
 #endif
