@@ -1,11 +1,13 @@
 """The report as one page that needs no other file and no network.
 
 All entries are in the page as text, so that it can be read without scripts, as some servers show it. The script of the
-page filters and sorts the entries.
+page filters, sorts, opens and copies the entries. A page may have a million frames: each has few elements.
 """
 
 from __future__ import annotations
 
+import base64
+import hashlib
 import os
 import re
 import time
@@ -22,7 +24,7 @@ from .results import Process, Results, Run
 from .side import GRANULE
 from .sources import Sources
 from .suppressions import suppression_of
-from .text import seen_text, totals_line, unchecked_text, variables_text
+from .text import Colors, seen_text, Text, totals_line, unchecked_text, variables_text
 from .words import command_line, plural, printable, shown_path
 
 PAGE = os.path.join(os.path.dirname(os.path.abspath(__file__)), "page.html")
@@ -49,17 +51,25 @@ def number(count: int) -> str:
 class Page:
     """Makes the parts of a page."""
 
-    def __init__(self, results: Results, sources: Sources, root: str) -> None:
+    def __init__(self, results: Results, sources: Sources, root: str, text: Text) -> None:
         self.results = results
         self.sources = sources
         self.root = root  # paths are seen from here
+        self.text = text
+        self.names: Dict[Finding, str] = {}  # what the address of the page names each place by
+        self.crashed: Dict[Finding, List[Process]] = {}  # the processes that crashed at each place
 
     def parts(self) -> Dict[str, Iterable[str]]:
         findings = self.in_order()
-        title = totals_line(self.results)
+        self.names = names_of(findings)
+        for run in self.results.runs:
+            for process in run.processes.values():
+                crash = self.results.crash_of(process)
+                if crash is not None:
+                    self.crashed.setdefault(crash, []).append(process)
         return {
-            "TITLE": [escape(title)],
-            "SUMMARY": [escape(title.partition(": ")[2])],
+            "TITLE": [escape(totals_line(self.results))],
+            "WHAT": [escape(self.what())],
             "WHEN": [escape(self.when())],
             "TILES": self.tiles(),
             "BANNER": self.banner(),
@@ -85,11 +95,15 @@ class Page:
         places += [crash for crash in crashes if crash not in placed]
         return sorted(places, key=lambda finding: not finding.counts)
 
-    def when(self) -> str:
+    def what(self) -> str:
         runs = self.results.runs
-        what = command_line(runs[0].command) if len(runs) == 1 else plural(len(runs), "run")
-        begun = [run.time for run in runs if run.time]
-        return what + (time.strftime(" · %Y-%m-%d %H:%M UTC", time.gmtime(min(begun))) if begun else "")
+        return command_line(runs[0].command) if len(runs) == 1 else plural(len(runs), "run")
+
+    def when(self) -> str:
+        """Returns when the first run began, and what the summary has besides the counts of reports."""
+        begun = [run.time for run in self.results.runs if run.time]
+        date = time.strftime("%Y-%m-%d %H:%M UTC · ", time.gmtime(min(begun))) if begun else ""
+        return date + totals_line(self.results).partition("; ")[2]
 
     def tiles(self) -> Iterator[str]:
         totals = self.results.totals()
@@ -113,7 +127,8 @@ class Page:
             yield tile(hidden, "suppressed, known or waited for", "")
 
     def banner(self) -> Iterator[str]:
-        lines = [f"{command_line(run.command)}: {trouble}" for run in self.results.runs
+        are_several = len(self.results.runs) > 1  # one alone is in the heading
+        lines = [f"{command_line(run.command)}: {trouble}" if are_several else trouble for run in self.results.runs
                  for trouble in (*run.troubles, run.failure) if trouble]
         if self.results.unchecked_count() and self.results.lists_unchecked:
             lines.append(f"not checked: {unchecked_text(self.results, 1000)}")
@@ -155,7 +170,6 @@ class Page:
 
     def card(self, finding: Finding, position: int) -> str:
         top, place = finding.top, self.place(finding)
-        words = " ".join([finding.class_name, top.function, place, finding.where]).lower()
         times = plural(finding.processes, "process")
         function = "in " + tag("b", escape(brief(top.function))) + " " if top.function else ""
         summary = (
@@ -165,17 +179,26 @@ class Page:
             + (tag("span", escape(finding.where), class_="near") if finding.where else "")
         )
         kinds = ["card", *["quiet"] * (not finding.counts), *["small"] * finding.is_consequence]
-        body = "".join(self.stacks(finding)) + self.foot(finding)
+        body = "".join(self.stacks(finding)) + self.as_text(finding) + self.foot(finding)
         return tag("details", tag("summary", summary) + tag("div", body, class_="body"), class_=" ".join(kinds),
-                   id=name_of(finding), data_words=words, data_class=finding.class_name, data_count=finding.count,
-                   data_position=position, data_file=shown_path(top.file or top.module, self.root), data_line=top.line,
+                   id=self.names[finding], data_words=self.words(finding, place), data_class=finding.class_name,
+                   data_count=finding.count, data_position=position,
+                   data_file=shown_path(top.file or top.module, self.root), data_line=top.line,
                    data_counts=int(finding.counts)) + "\n"
+
+    def words(self, finding: Finding, place: str) -> str:
+        """Returns where the filter looks for words: each function, file and module of all frames is there once."""
+        words = [finding.class_name, finding.title, finding.where, place, *(it.words for it in finding.threads.all)]
+        for _, stack, _ in titled_stacks(finding):
+            for frame in stack:
+                words += [frame.function, shown_path(frame.file, self.root), shown_path(frame.module, self.root)]
+        return " ".join(filter(None, dict.fromkeys(words))).lower()
 
     def stacks(self, finding: Finding) -> Iterator[str]:
         if finding.follows is not None:
             first = finding.follows
             place = f"{brief(first.top.function)} {self.place(first)}"
-            link = tag("a", escape(f"{first.title} in {place}"), href="#" + name_of(first))
+            link = tag("a", escape(f"{first.title} in {place}"), href="#" + self.names[first])
             yield tag("p", "On the same block or variable as the earlier " + link + ".")
         yield tag("p", escape(self.what_is(finding)))
         if finding.is_forgotten:
@@ -194,7 +217,15 @@ class Page:
             yield tag("h3", escape(lines[0].strip())) + listing(lines[1:])
         if finding.rows.shadow:
             shadow = list(shadow_rows.lines(finding.rows, finding.bad_byte))
-            yield tag("details", tag("summary", escape(shadow[0].rstrip(":"))) + listing(shadow[1:]), class_="shadow")
+            yield folded(shadow[0].rstrip(":"), shadow[1:])
+
+    def as_text(self, finding: Finding) -> str:
+        """Returns a place as the text has it, which is folded away."""
+        if isinstance(finding, Crash):
+            lines = list(self.text.crashes(self.results, self.crashed.get(finding, [])))
+        else:
+            lines = list(self.text.finding(finding, seen=seen_text(self.results, finding)))[:-1]
+        return folded("As text", lines, "text")
 
     @staticmethod
     def what_is(finding: Finding) -> str:
@@ -212,8 +243,9 @@ class Page:
         return tag("ol", "".join(frames), start=0)
 
     def frame(self, frame: Frame, is_open: bool) -> str:
-        place = frame.note or shown_path(place_text(frame), self.root) + (" (inlined)" if frame.is_inlined else "")
-        line = tag("b", escape(brief(frame.function) or "?")) + " " + tag("span", escape(place), class_="dim")
+        place = escape(frame.note or shown_path(place_text(frame), self.root))
+        inlined = " (inlined)" if frame.is_inlined and not frame.note else ""
+        line = tag("b", escape(brief(frame.function) or "?")) + " " + tag("span", place + inlined, class_="dim")
         excerpt = self.excerpt(frame)
         if not excerpt:
             return tag("div", line, class_="frame mono")
@@ -225,10 +257,9 @@ class Page:
         lines = self.sources.around(frame.file, frame.line, AROUND)
         if frame.text and self.sources.line(frame.file, frame.line) != frame.text:
             lines = [(frame.line, frame.text)]
-        rows = [tag("div", tag("i", str(at)) + tag("span", escape(text)), class_="hit" if at == frame.line else "row")
-                for at, text in lines]
-        return tag("div", "".join(rows), class_="source mono", tabindex=0, role="group",
-                   aria_label="source") if rows else ""
+        rows = [f"{at:5}  {escape(text)}" for at, text in lines]
+        rows = [tag("b", row) if at == frame.line else row + "\n" for row, (at, _) in zip(rows, lines)]
+        return box("".join(rows), "source") if rows else ""
 
     def foot(self, finding: Finding) -> str:
         parts = []
@@ -240,11 +271,12 @@ class Page:
             parts.append(tag("span", AWAITED, class_="pill"))
         line = suppression_of(finding, self.sources.root)
         if line:
-            parts.append("to suppress: " + tag("code", escape(line), class_="pill"))
+            parts.append("to suppress: " + tag("code", escape(line), class_="pill suppression"))
         process = self.results.first_process(finding)
         if process is not None and process.command:
             parts.append(f"process {process.pid}: " + tag("code", escape(self.command_of(process))))
-        parts.append("fingerprint " + tag("code", escape(finding.fingerprint)))
+        name = "#" + self.names[finding]
+        parts.append("fingerprint " + tag("a", tag("code", escape(name)), href=name))
         if len(self.results.runs) > 1:
             names = [command_line(self.results.runs[run].command) for run in list(finding.runs)[:5]]
             more = f" and {len(finding.runs) - 5} more" if len(finding.runs) > 5 else ""
@@ -288,16 +320,30 @@ def shadow_of(finding: Finding) -> str:
     return f"{finding.rows.shadow[at]:02x}" if 0 <= at < len(finding.rows.shadow) else finding.shadow
 
 
+def box(text: str, name: str) -> str:
+    """Returns text in a box that scrolls."""
+    return tag("pre", text, class_="source", tabindex=0, role="group", aria_label=name)
+
+
 def listing(lines: Iterable[str]) -> str:
     """Returns lines that stand as they are."""
-    text = "\n".join(map(escape, lines))
-    return tag("div", tag("pre", text), class_="source", tabindex=0, role="group", aria_label="memory")
+    return box("\n".join(map(escape, lines)), "memory")
 
 
-def name_of(finding: Finding) -> str:
-    """Returns what the address of the page may name a place by."""
-    which = f"-{finding.ordinal}" if finding.ordinal > 1 else ""
-    return f"{finding.fingerprint}-{finding.top.line}{which}"
+def folded(title: str, lines: Iterable[str], kind: str = "shadow") -> str:
+    """Returns lines that are shown when their title is opened."""
+    return tag("details", tag("summary", escape(title)) + listing(lines), class_=f"fold {kind}")
+
+
+def names_of(findings: Iterable[Finding]) -> Dict[Finding, str]:
+    """Returns a name for each place, which is its fingerprint: so the address of a place is the same in the page of a
+    later run. Others with this fingerprint have numbers after it."""
+    alike: Dict[str, int] = {}
+    names: Dict[Finding, str] = {}
+    for finding in findings:
+        count = alike[finding.fingerprint] = alike.get(finding.fingerprint, 0) + 1
+        names[finding] = finding.fingerprint + (f"-{count}" if count > 1 else "")
+    return names
 
 
 def titled_stacks(finding: Finding) -> Iterator[Tuple[str, Stack, Optional[Frame]]]:
@@ -311,10 +357,18 @@ def titled_stacks(finding: Finding) -> Iterator[Tuple[str, Stack, Optional[Frame
         yield title, stack, None
 
 
+def allowed(script: str) -> str:
+    """Returns how the policy of the page names a script that may run."""
+    return f"'sha256-{base64.b64encode(hashlib.sha256(script.encode()).digest()).decode()}'"
+
+
 def write(results: Results, out: TextIO, options: Options, sources: Sources) -> None:
     with open(PAGE, encoding="utf-8") as file:
         page = file.read()
-    parts = Page(results, sources, os.path.realpath(options.value("--source-root", "."))).parts()
+    root = os.path.realpath(options.value("--source-root", "."))
+    text = Text(out, Colors(False), root, False, options.switches["--full-stacks"], options.switches["--shadow"])
+    parts = Page(results, sources, root, text).parts()
+    parts["SCRIPTS"] = [" ".join(map(allowed, re.findall("<script>(.*?)</script>", page, re.S)))]
     # Inserted text is not searched again: a path may read like a mark of the page.
     for position, piece in enumerate(re.split(r"<!--([A-Z]+)-->", page)):
         if position % 2 == 0:

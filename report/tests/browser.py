@@ -34,7 +34,7 @@ SCRIPT = r"""
   seen.place = shown();
   const card = document.querySelectorAll("#places .card")[0];
   card.open = true;
-  seen.hit = card.querySelector(".hit span").textContent.trim();
+  seen.hit = card.querySelector(".source b").textContent.trim();
   const cells = column => [...get("processes").tBodies[0].rows].map(it => it.cells[column].textContent);
   const heads = get("processes").querySelectorAll("th button");
   heads[2].click();
@@ -106,7 +106,7 @@ WANTED = {
     "class": [OVERFLOW],
     "count": [FREED, OVERFLOW],
     "place": [FREED, OVERFLOW],
-    "hit": 'here("use"); /* <b>&"quoted"</b> */',
+    "hit": '7      here("use"); /* <b>&"quoted"</b> */',
     "up": ["9", "20"],
     "sorted": "ascending",
     "down": ["20", "9"],
@@ -185,7 +185,7 @@ def open_page(browser: Browser, path: str) -> str:
 
 
 def value_of(browser: Browser, session: str, script: str) -> Any:
-    result = browser.ask("Runtime.evaluate", session, expression=script, returnByValue=True)
+    result = browser.ask("Runtime.evaluate", session, expression=script, returnByValue=True, awaitPromise=True)
     return result.get("result", {}).get("value") or {"result": result}
 
 

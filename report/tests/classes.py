@@ -192,5 +192,5 @@ def two_bugs_in_a_line_are_two(folder: str) -> None:
             found = [it for it in map(json.loads, file) if it["type"] == "finding"]
         expect((len(found), len({it["fingerprint"] for it in found})), (2 * count, 1), "findings")
         with open(f"{folder}/a.html", encoding="utf-8") as file:
-            marks = re.findall(r'id="([0-9a-f]{16}-[^"]*)"', file.read())
+            marks = re.findall(r'id="([0-9a-f]{16}(?:-[0-9]+)?)"', file.read())
         expect((len(marks), len(set(marks))), (count, count), "marks of the page")

@@ -3,6 +3,7 @@
 import html.parser
 import json
 import os
+import re
 import shutil
 import subprocess
 import xml.dom.minidom
@@ -308,12 +309,13 @@ def page_is_safe(folder: str) -> None:
     report(folder, "--trace", "a.trace", "--html", "out.html")
     with open(f"{folder}/out.html", encoding="utf-8") as file:
         text = file.read()
-    expect(text.count("</script>"), 1, "ends of scripts")
+    expect(text.count("</script>"), 2, "ends of scripts")
+    expect(len(re.findall("script-src 'sha256-[^' ]{44}' 'sha256-[^' ]{44}';", text)), 1, "scripts that may run")
     expect_in(text, "&lt;/script&gt;&lt;!--NOTES--&gt;&lt;img")
     expect_not_in(text, "@import", "url(")
     reader = Links()
     reader.feed(text)
-    expect(reader.links, ["data:,"], "links")
+    expect([link for link in reader.links if not re.fullmatch("#[0-9a-f]{16}", link)], ["data:,"], "links out of it")
     expect(reader.seen & {"img", "b", "iframe", "base"}, {"b"}, "elements")
 
 
