@@ -15,6 +15,9 @@ _asancol_report() {
         compopt -o filenames 2> /dev/null
         return
         ;;
+    --source-url | --quarantine | --memory | --limit)
+        return
+        ;;
     --format)
         mapfile -t COMPREPLY < <(compgen -W 'asancol asan' -- "$word")
         return
@@ -36,13 +39,10 @@ _asancol_report() {
         mapfile -t COMPREPLY < <(compgen -W 'summary no yes' -- "$word")
         return
         ;;
-    --quarantine | --memory | --limit)
-        return
-        ;;
     esac
     if [[ $word == -* ]]; then
-        mapfile -t COMPREPLY < <(compgen -W '--json --sarif --junit --codequality --html --format --log-path --live
-            --crashes --source-root --color --full-stacks --shadow --unchecked --no-machines --quiet --leaks
+        mapfile -t COMPREPLY < <(compgen -W '--json --sarif --junit --codequality --html --source-url --format --log-path
+            --live --crashes --source-root --color --full-stacks --shadow --unchecked --no-machines --quiet --leaks
             --suppressions --gen-suppressions --baseline --trace --quarantine --memory --limit --run --help --version' -- "$word")
     else
         local end='*.jsonl'

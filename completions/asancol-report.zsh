@@ -10,6 +10,7 @@ _arguments -S \
     '--junit=[JUnit XML: a test case for each run]:file:_files' \
     '--codequality=[a Code Quality report of GitLab]:file:_files' \
     '--html=[a page that needs no other file and no network]:file:_files' \
+    '--source-url=[address of a line of source, for links of --html]:url' \
     '--format=[text of reports: asancol or asan]:form:(asancol asan)' \
     '--log-path=[write the text of asan to PREFIX.PID, too]:file:_files' \
     '--live[print the first report of each place when it comes]' \

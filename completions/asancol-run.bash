@@ -9,9 +9,9 @@ _asancol_run() {
         case $ended${COMP_WORDS[at]} in
         --) ended=' ' ;;
         --exitcode | --error-exitcode | --incomplete-exitcode | --nothing-exitcode | --at-least | --wait | --timeout | \
-            --json | --sarif | --junit | --codequality | --html | --keep | --log-file | --format | --log-path | \
-            --source-root | --color | --unchecked | --leaks | --suppressions | --baseline | --quarantine | --memory | \
-            --limit)
+            --json | --sarif | --junit | --codequality | --html | --source-url | --keep | --log-file | --format | \
+            --log-path | --source-root | --color | --unchecked | --leaks | --suppressions | --baseline | \
+            --quarantine | --memory | --limit)
             ((at++))
             [[ ${COMP_WORDS[at]} == = ]] && ((at++))
             ;;
@@ -31,7 +31,7 @@ _asancol_run() {
     fi
     case $before in
     --exitcode | --error-exitcode | --incomplete-exitcode | --nothing-exitcode | --at-least | --wait | --timeout | \
-        --quarantine | --memory | --limit)
+        --source-url | --quarantine | --memory | --limit)
         return
         ;;
     --json | --sarif | --junit | --codequality | --html | --log-file | --log-path | --suppressions | --baseline)
@@ -63,10 +63,10 @@ _asancol_run() {
     esac
     if [[ $word == -* && -z $ended ]]; then
         mapfile -t COMPREPLY < <(compgen -W '--exitcode --error-exitcode --incomplete-exitcode --nothing-exitcode
-            --at-least --wait --timeout --json --sarif --junit --codequality --html --keep --log-file --format --log-path
-            --live --crashes --source-root --color --full-stacks --shadow --unchecked --quiet --verbose --leaks
-            --suppressions --gen-suppressions --baseline --quarantine --no-mismatches --full --preload --memory --limit
-            --help --version --' -- "$word")
+            --at-least --wait --timeout --json --sarif --junit --codequality --html --source-url --keep --log-file
+            --format --log-path --live --crashes --source-root --color --full-stacks --shadow --unchecked --quiet
+            --verbose --leaks --suppressions --gen-suppressions --baseline --quarantine --no-mismatches --full --preload
+            --memory --limit --help --version --' -- "$word")
     else
         mapfile -t COMPREPLY < <(compgen -c -- "$word"; compgen -f -- "$word")
     fi

@@ -15,7 +15,7 @@ function _asancol_run_takes -a what
             case nono--
                 set ends yes
             case 'nono--*=*'
-            case nono--exitcode nono--error-exitcode nono--incomplete-exitcode nono--nothing-exitcode nono--at-least nono--wait nono--timeout nono--json nono--sarif nono--junit nono--codequality nono--html nono--keep nono--log-file nono--format nono--log-path nono--source-root nono--color nono--unchecked nono--leaks nono--suppressions nono--baseline nono--quarantine nono--memory nono--limit
+            case nono--exitcode nono--error-exitcode nono--incomplete-exitcode nono--nothing-exitcode nono--at-least nono--wait nono--timeout nono--json nono--sarif nono--junit nono--codequality nono--html nono--source-url nono--keep nono--log-file nono--format nono--log-path nono--source-root nono--color nono--unchecked nono--leaks nono--suppressions nono--baseline nono--quarantine nono--memory nono--limit
                 set skips yes
             case 'nono-*'
             case '*'
@@ -29,7 +29,7 @@ function _asancol_run_takes -a what
     end
 end
 
-complete -c asancol-run -n '_asancol_run_takes command' -x -a '(__fish_complete_subcommand --fcs-skip=1 - --exitcode --error-exitcode --incomplete-exitcode --nothing-exitcode --at-least --wait --timeout --json --sarif --junit --codequality --html --keep --log-file --format --log-path --source-root --color --unchecked --leaks --suppressions --baseline --quarantine --memory --limit)'
+complete -c asancol-run -n '_asancol_run_takes command' -x -a '(__fish_complete_subcommand --fcs-skip=1 - --exitcode --error-exitcode --incomplete-exitcode --nothing-exitcode --at-least --wait --timeout --json --sarif --junit --codequality --html --source-url --keep --log-file --format --log-path --source-root --color --unchecked --leaks --suppressions --baseline --quarantine --memory --limit)'
 complete -c asancol-run -n '_asancol_run_takes option' -l exitcode -x -d 'status if a report counts'
 complete -c asancol-run -n '_asancol_run_takes option' -l error-exitcode -x -d 'status if a report counts'
 complete -c asancol-run -n '_asancol_run_takes option' -l incomplete-exitcode -x -d 'status if the run was incomplete'
@@ -42,6 +42,7 @@ complete -c asancol-run -n '_asancol_run_takes option' -l sarif -r -F -d 'SARIF 
 complete -c asancol-run -n '_asancol_run_takes option' -l junit -r -F -d 'JUnit XML: a test case for each run'
 complete -c asancol-run -n '_asancol_run_takes option' -l codequality -r -F -d 'a Code Quality report of GitLab'
 complete -c asancol-run -n '_asancol_run_takes option' -l html -r -F -d 'a page that needs no other file and no network'
+complete -c asancol-run -n '_asancol_run_takes option' -l source-url -x -d 'address of a line of source, for links of --html'
 complete -c asancol-run -n '_asancol_run_takes option' -l keep -x -a '(__fish_complete_directories)' -d 'keep the traces of processes with reports'
 complete -c asancol-run -n '_asancol_run_takes option' -l log-file -r -F -d 'write all lines here, not to standard error'
 complete -c asancol-run -n '_asancol_run_takes option' -l format -x -a 'asancol asan' -d 'text of reports: asancol or asan'

@@ -15,6 +15,7 @@ _arguments -S \
     '--junit=[JUnit XML: a test case for each run]:file:_files' \
     '--codequality=[a Code Quality report of GitLab]:file:_files' \
     '--html=[a page that needs no other file and no network]:file:_files' \
+    '--source-url=[address of a line of source, for links of --html]:url' \
     '--keep=[keep the traces of processes with reports]:folder:_files -/' \
     '--log-file=[write all lines here, not to standard error]:file:_files' \
     '--format=[text of reports: asancol or asan]:form:(asancol asan)' \

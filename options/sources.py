@@ -9,7 +9,7 @@ from typing import Dict, List, Sequence, Union
 from table import Option, Program, Wrong
 
 COLUMNS = 80
-LINES = 44
+LINES = 45
 
 
 def help_of(program: Program) -> List[str]:
@@ -72,6 +72,7 @@ def header_of(program: Program, made: str) -> str:
         "#ifndef ASANCOL_RUN_OPTION_TABLE_H",
         "#define ASANCOL_RUN_OPTION_TABLE_H",
         "",
+        "/* clang-format off */",
         macro("OPTION_HELP", [json.dumps(f"{it}\n") for it in help_of(program)]),
         macro("OPTION_DEFAULTS", [f".{it.of('Sets')} = {it.of('Default')}" for it in numbers], ","),
         macro("OPTION_ROWS", [row_of(it, name) for it in program.options for name in it.names], ","),

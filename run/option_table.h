@@ -4,6 +4,7 @@
 #ifndef ASANCOL_RUN_OPTION_TABLE_H
 #define ASANCOL_RUN_OPTION_TABLE_H
 
+/* clang-format off */
 #define OPTION_HELP \
     "usage: asancol-run [options] [--] COMMAND [ARGUMENT...]\n" \
     "Runs COMMAND, and checks each process under it that was built with asancol-cc.\n" \
@@ -20,6 +21,7 @@
     "  --junit FILE             JUnit XML: a test case for each run\n" \
     "  --codequality FILE       a Code Quality report of GitLab\n" \
     "  --html FILE              a page that needs no other file and no network\n" \
+    "  --source-url URL         address of a line of source, for links of --html\n" \
     "  --keep DIR               keep the traces of processes with reports\n" \
     "Text:\n" \
     "  --log-file FILE          write all lines here, not to standard error\n" \
@@ -70,6 +72,7 @@
     {"junit", 0, PASS_OUTPUT, 0, 0, 0, NULL}, \
     {"codequality", 0, PASS_OUTPUT, 0, 0, 0, NULL}, \
     {"html", 0, PASS_OUTPUT, 0, 0, 0, NULL}, \
+    {"source-url", 0, PASS_URL, 0, 0, 0, NULL}, \
     {"keep", 0, SET_FOLDER, AT(keep), 0, 0, NULL}, \
     {"log-file", 0, SET_OUTPUT, AT(log), 0, 0, NULL}, \
     {"format", 0, PASS_WORDS, 0, 0, 0, (const char *const[]){"asancol", "asan", NULL}}, \

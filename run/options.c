@@ -22,6 +22,7 @@
 #include "outer.h"
 #include "preload.h"
 #include "say.h"
+#include "source_url.h"
 
 _Static_assert(MAX_OF_QUARANTINE == MAX_QUARANTINE && DEFAULT_OF_QUARANTINE == QUARANTINE_BOUND
                    && MAX_OF_LIMIT == EVENT_LIMIT,
@@ -44,6 +45,7 @@ enum action {
     PASS_OUTPUT, /* a file that the report writes */
     PASS_FOLDER, /* a folder that the report is given */
     PASS_PREFIX, /* the beginning of the names of files that the report writes */
+    PASS_URL,    /* a template of addresses, for the report */
     SHOW_HELP,
     SHOW_VERSION
 };
@@ -299,6 +301,16 @@ static void pass_name(struct options *options, enum action action, const char *d
     options->has_rules |= action == PASS_INPUT;
 }
 
+static void pass_url(struct options *options, const char *dashed, const char *value)
+{
+    const char *fault = source_url_fault(value);
+    if (fault != NULL) {
+        say("asancol-run: %s: '%s' %s", dashed, value, fault);
+        exit(OWN_FAILURE);
+    }
+    pass(options, dashed, value);
+}
+
 /* One of the words of an option. */
 static void pass_word(struct options *options, const struct option *option, const char *dashed, const char *value)
 {
@@ -379,6 +391,9 @@ static void take_value(struct options *options, const struct option *option, con
         break;
     case PASS_WORDS:
         pass_word(options, option, dashed, value);
+        break;
+    case PASS_URL:
+        pass_url(options, dashed, value);
         break;
     default:
         pass_name(options, option->action, dashed, value);

@@ -78,9 +78,9 @@ TARGETS = [
            [SIDE + REPORT + b"p0 end " + it + b"\n" for it in ENDS],
            [b"p0 end ", b"events ", b" reports ", b" checked "]),
     Target("asancol-run: arguments", [f"{THEIRS}/arguments.c", f"{THEIRS}/ends.c", f"{RUN}/options.c", f"{RUN}/names.c",
-                                   f"{RUN}/preload.c", f"{RUN}/asan.c", f"{COMMON}/path.c",
+                                   f"{RUN}/preload.c", f"{RUN}/asan.c", f"{RUN}/source_url.c", f"{COMMON}/path.c",
                                    f"{COMMON}/strings.c"],
-           RUNS, [b"--wait=", b"--at-least=", b"%q{", b"}", b"--quarantine=", b"--html="],
+           RUNS, [b"--wait=", b"--at-least=", b"%q{", b"}", b"--quarantine=", b"--html=", b"--source-url=x:{file}"],
            ["-Dexit=fuzz_exit", "-include", f"{THEIRS}/ends.h", '-DRELEASE="1"']),
 ]
 

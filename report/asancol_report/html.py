@@ -22,6 +22,7 @@ from .functions import brief
 from .options import Options
 from .results import Process, Results, Run
 from .side import GRANULE
+from .source_url import SourceUrl
 from .sources import Sources
 from .suppressions import suppression_of
 from .text import Colors, seen_text, Text, totals_line, unchecked_text, variables_text
@@ -51,11 +52,12 @@ def number(count: int) -> str:
 class Page:
     """Makes the parts of a page."""
 
-    def __init__(self, results: Results, sources: Sources, root: str, text: Text) -> None:
+    def __init__(self, results: Results, sources: Sources, root: str, text: Text, source_url: SourceUrl) -> None:
         self.results = results
         self.sources = sources
         self.root = root  # paths are seen from here
         self.text = text
+        self.source_url = source_url
         self.names: Dict[Finding, str] = {}  # what the address of the page names each place by
         self.crashed: Dict[Finding, List[Process]] = {}  # the processes that crashed at each place
 
@@ -244,6 +246,8 @@ class Page:
 
     def frame(self, frame: Frame, is_open: bool) -> str:
         place = escape(frame.note or shown_path(place_text(frame), self.root))
+        address = self.source_url.of(frame)
+        place = tag("a", place, href=address) if address else place
         inlined = " (inlined)" if frame.is_inlined and not frame.note else ""
         line = tag("b", escape(brief(frame.function) or "?")) + " " + tag("span", place + inlined, class_="dim")
         excerpt = self.excerpt(frame)
@@ -367,7 +371,7 @@ def write(results: Results, out: TextIO, options: Options, sources: Sources) -> 
         page = file.read()
     root = os.path.realpath(options.value("--source-root", "."))
     text = Text(out, Colors(False), root, False, options.switches["--full-stacks"], options.switches["--shadow"])
-    parts = Page(results, sources, root, text).parts()
+    parts = Page(results, sources, root, text, SourceUrl(options.value("--source-url"), root)).parts()
     parts["SCRIPTS"] = [" ".join(map(allowed, re.findall("<script>(.*?)</script>", page, re.S)))]
     # Inserted text is not searched again: a path may read like a mark of the page.
     for position, piece in enumerate(re.split(r"<!--([A-Z]+)-->", page)):

@@ -11,6 +11,7 @@ Output files:
   --junit FILE         JUnit XML: a test case for each run
   --codequality FILE   a Code Quality report of GitLab
   --html FILE          a page that needs no other file and no network
+  --source-url URL     address of a line of source, for links of --html
 Text:
   --format FORM        text of reports: asancol or asan (asancol)
   --log-path PREFIX    write the text of asan to PREFIX.PID, too
@@ -75,6 +76,7 @@ WITH_VALUE = (
     "--junit",
     "--codequality",
     "--html",
+    "--source-url",
     "--format",
     "--log-path",
     "--source-root",

@@ -94,6 +94,8 @@ def look_over(options: Options) -> None:
         raise Refused("--run and --trace do not go together")
     if options.value("--nested") and not switches["--run"]:
         raise Refused("--nested is for --run")
+    if options.value("--source-url"):
+        look_at_url(options.value("--source-url"))
     if options.check_words and not switches["--trace"]:
         raise Refused(f"{options.check_words[0]} is for --trace")
     if switches["--trace"] and "-" in options.files:
@@ -104,6 +106,14 @@ def look_over(options: Options) -> None:
         raise Refused("no file was named; --help says more")
     if not switches["--run"]:  # there nothing may be lost, and asancol-run has looked at the names
         look_for_losses(options)
+
+
+def look_at_url(template: str) -> None:
+    from .source_url import fault_of
+
+    fault = fault_of(template)
+    if fault:
+        raise Refused(f"--source-url: '{template}' {fault}")
 
 
 def look_for_losses(options: Options) -> None:

@@ -6,8 +6,8 @@ from typing import Any, Callable, Dict, List
 
 import browser
 from looks import Entry, finding, frame, process
-from testing import LeftOut, expect, expect_in
-from testing.reports import report, report_test
+from testing import LeftOut, expect, expect_in, expect_not_in
+from testing.reports import one_trace, report, report_test
 
 HEAPS = ("heap-use-after-free", "heap-buffer-overflow")
 PLACES = 5
@@ -252,3 +252,57 @@ def page_says_things_once(folder: str) -> None:
     text = page_of(folder)
     expect_in(text, "<title>asancol: 1 report at 1 place; 1 process, 1234567 events; all complete</title>",
               "<h1>ctest -j2</h1>")
+
+
+@report_test
+def frames_lead_to_sources(folder: str) -> None:
+    one_trace(folder)
+    report(folder, "--trace", "a.trace", "--json", "a.jsonl")
+    expect_not_in(page_of(folder), "<a href=\"http")
+    forge = "https://git.example.com/blob/main/{file}?a=1&b=%20#L{line}"
+    expect_in(page_of(folder, "--source-url", forge),
+              '<a href="https://git.example.com/blob/main/program.c?a=1&amp;b=%20#L7">program.c:7')
+    expect_in(page_of(folder, "--source-url", "vscode://file{path}:{line}:{column}"),
+              f'<a href="vscode://file{folder}/program.c:7:')
+    above, own = folder.rsplit("/", 1)
+    page = page_of(folder, "--source-root", above, "--source-url", "x:{file}")
+    expect_in(page, f'<a href="x:{own}/program.c"')
+    page = page_of(folder, "--source-root", "/usr", "--source-url", forge)
+    expect_not_in(page, "git.example.com")
+
+
+@report_test
+def odd_paths_in_addresses(folder: str) -> None:
+    """Whatever a file is called, its address is one. A relative path of the system's libraries is none from here."""
+    odd = {**frame(folder, "f", 5), "file": f"{folder}/a b/\"><script>?#%+&é.c", "column": 0}
+    system = {**frame(folder, "f", 6), "file": "nptl/pthread_create.c", "module": "/lib/x86_64-linux-gnu/libc.so.6"}
+    write_result(folder, [finding(folder, 1, stack=[odd, system], allocated=[])])
+    page = page_of(folder, "--source-url", "https://x/{file}#{line}:{column}")
+    expect_in(page, '<a href="https://x/a%20b/%22%3E%3Cscript%3E%3F%23%25%2B%26%C3%A9.c#5:1">')
+    expect_not_in(page, "https://x/nptl")
+    expect_in(page_of(folder, "--source-url", "https://x/?at={path}"), f"https://x/?at={folder}/a%20b/%22%3E")
+
+
+REFUSED = {
+    "{file}": "has no scheme: begin it with one, such as https: or vscode:",
+    "//x/{file}": "has no scheme",
+    "7up:{file}": "has no scheme",
+    "javascript:{file}": "would run what is in it: begin it with another scheme, such as https:",
+    "JavaScript:{file}": "would run what is in it",
+    "data:text/html,{file}": "would run what is in it",
+    "https://x/{line}": "does not say which file: write {file} or {path} where its path is to stand",
+    "https://x/{file}{lines}": "has a brace of no mark: the marks are {file}, {path}, {line} and {column}",
+    "https://x/{file}}": "has a brace of no mark",
+    "https://x/a b/{file}": "has a blank, or a character that is not ASCII",
+    "https://x/ä/{file}": "has a blank, or a character that is not ASCII",
+}
+
+
+@report_test
+def addresses_are_refused(folder: str) -> None:
+    """The message has the value, the mistake and the remedy."""
+    write_result(folder, [])
+    for template, text in REFUSED.items():
+        ran = report(folder, "a.jsonl", "--source-url", template, "--html", "b.html")
+        expect(ran.status, 2, template)
+        expect_in(ran.err, f"asancol-report: --source-url: '{template}' {text}")

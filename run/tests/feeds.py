@@ -44,12 +44,14 @@ def check_words(suite: Suite, folder: str) -> None:
         write_text(f"{folder}/{name}", "")
     argv = ["--suppressions", "known", "--suppressions=known", "--suppressions=more", "--baseline", f"{folder}/known"]
     argv += ["--gen-suppressions", "--color", "never", "--live", "--source-root", ".", "--html", "of-%q{WHO}-%%", "-q"]
+    argv += ["--source-url=https://x/a%20b/{file}#L{line}"]
     packets = f"{folder}/packets"
     suite.run(*argv, "--", suite.program, "past", cwd=folder, WHO="me", FAKE_PACKETS=packets)
     given = read_packets(packets)[0]
     here = os.path.realpath(folder)
     expect([given.count(it) for it in (f"{here}/known", "--suppressions", "--baseline")], [2, 2, 1], "files")
     expect(given[given.index("--html") + 1], f"{here}/of-me-%", "html")
+    expect(given[given.index("--source-url") + 1], "https://x/a%20b/{file}#L{line}", "the addresses of sources")
     for word in ("--gen-suppressions", "--live", "--color", "--source-root", "--quiet"):
         expect(word in given, True, word)
 
