@@ -217,13 +217,17 @@ enum side_skipped {
     SKIPPED_BEYOND = 32,  /* accesses to memory whose addresses no trace has */
 };
 
+/* Whether it has ended itself by `halt`, at a report; and then whether it has printed that, or left that to the run,
+   whose text goes to the same file. */
+enum side_halted { HALTED_NOT, HALTED_AND_SAID, HALTED_UNSAID };
+
 /* What its environment has set for it, beside the quarantine. */
 struct side_settings {
     uint64_t limit;  /* how many events a segment may have; 0: it is not noted */
     uint32_t is_one; /* 1: there is one segment, and the limit ends the recording */
     uint32_t halt;   /* as ASANCOL_HALT has it */
     uint32_t is_lean; /* 1: mallocs and frees are recorded where a fault needs them, so nothing is held for its bound */
-    uint32_t has_halted; /* 1: it has ended itself by `halt`, at a report */
+    uint32_t has_halted; /* enum side_halted */
 };
 
 /* A thread that is not known. */

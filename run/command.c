@@ -9,6 +9,7 @@
 #include <stdlib.h>
 #include <string.h>
 #include <sys/prctl.h>
+#include <sys/stat.h>
 #include <sys/wait.h>
 #include <unistd.h>
 
@@ -20,6 +21,18 @@
 #include "serving.h"
 #include "signals.h"
 
+/* Where our text goes: a process that halts there leaves its report to us. */
+static void set_text(void)
+{
+    struct stat seen;
+    char file[48];
+    unsetenv("ASANCOL_TEXT");
+    if (fstat(say_descriptor(), &seen) != 0)
+        return;
+    snprintf(file, sizeof file, "%ju:%ju", (uintmax_t)seen.st_dev, (uintmax_t)seen.st_ino);
+    setenv("ASANCOL_TEXT", file, 1);
+}
+
 /* Nothing else of the command's environment changes. */
 static void set_environment(const struct options *options, const char *hub)
 {
@@ -29,6 +42,7 @@ static void set_environment(const struct options *options, const char *hub)
     if (options->served != 0)
         setenv("ASANCOL_ROOT", number, 1);
     setenv("ASANCOL_HUB", hub, 1);
+    set_text();
     unsetenv("ASANCOL_TRACE");
     unsetenv("ASANCOL_SOCKET");
     unsetenv("ASANCOL_STOP"); /* a debugger is run by itself */

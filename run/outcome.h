@@ -35,7 +35,8 @@ struct outcome {
     bool has_checks;
     bool is_closed_off;   /* it has closed its descriptors, that of its stream too */
     bool is_cut_at_limit; /* it is incomplete since it went on after the limit of events */
-    bool has_halted;      /* it has ended itself at its first report, by ASANCOL_HALT: that is no crash */
+    bool has_halted;      /* it has ended itself at its first report, by ASANCOL_HALT: that is no crash; */
+    bool is_unsaid;       /* and has left it to us to print that */
     bool is_crash;        /* the signal is one of a mistake, */
     bool is_ignored;      /* of which whoever has started it wants to hear nothing */
     bool was_replaced;    /* it did not end: another program runs in its place */

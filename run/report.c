@@ -215,6 +215,8 @@ static void put_outcome(FILE *to, const struct outcome *outcome)
         fputs(",\"abrupt\":true", to);
     if (outcome->has_halted)
         fputs(",\"halted\":true", to);
+    if (outcome->is_unsaid)
+        fputs(",\"unsaid\":true", to);
 }
 
 static void put_file(FILE *to, const char *name, const char *path)

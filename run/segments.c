@@ -271,6 +271,7 @@ static struct outcome add_up(const struct segment *front)
         joined.fate = at->outcome.fate;
         joined.signal = at->outcome.signal;
         joined.has_halted = at->outcome.has_halted;
+        joined.is_unsaid = at->outcome.is_unsaid;
         joined.is_crash = at->outcome.is_crash;
         joined.is_ignored = at->outcome.is_ignored;
     }

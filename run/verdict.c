@@ -347,7 +347,9 @@ static void read_side(struct segment *segment)
     outcome->left_out = side != NULL ? side->left_out : 0;
     outcome->has_checks = !process_is_unseen(segment->process) && (side == NULL || side->has_checks != 0);
     outcome->signal = outcome->ending == ENDING_SIGNAL ? side->signal : 0;
-    outcome->has_halted = side != NULL && side_settings(side).has_halted != 0;
+    uint32_t halted = side != NULL ? side_settings(side).has_halted : HALTED_NOT;
+    outcome->has_halted = halted != HALTED_NOT;
+    outcome->is_unsaid = halted == HALTED_UNSAID;
     struct side_progress progress = side != NULL ? side_progress(side) : (struct side_progress){0};
     read_findings(outcome, &progress, side != NULL ? side_entries(side) : 0); /* after the progress: both grow */
     outcome->stated = progress.stated < outcome->events ? progress.stated : outcome->events;

@@ -23,12 +23,33 @@ extern int LLVMFuzzerTestOneInput(const unsigned char *, size_t) __attribute__((
 
 /* All that the recorder and its tools read. */
 static const char *const names[] = {
-    "ASANCOL_TRACE",    "ASANCOL_HUB",      "ASANCOL_SOCKET", "ASANCOL_WHERE", "ASANCOL_QUARANTINE",
-    "ASANCOL_LIMIT",    "ASANCOL_PATIENCE", "ASANCOL_LOG",    "ASANCOL_ALL",   "ASANCOL_HALT",
-    "ASANCOL_STOP",     "ASANCOL_REPORT",   "ASANCOL_SYMBOLIZER",              "ASANCOL_SEGMENTS",
-    "ASANCOL_LEAKS",    "ASANCOL_MISMATCHES", "ASANCOL_USE_AFTER_RETURN",     "ASANCOL_LIBRARIES",
-    "ASANCOL_FULL",     "ASANCOL_OUTER",   "ASANCOL_RUN",      "ASANCOL_ODR",
-    "ASANCOL_ROOT",     "ASANCOL_INIT_ORDER", "ASANCOL_POINTER_PAIRS",              "ASANCOL_MAY_RETURN_NULL",
+    "ASANCOL_TRACE",
+    "ASANCOL_HUB",
+    "ASANCOL_SOCKET",
+    "ASANCOL_WHERE",
+    "ASANCOL_QUARANTINE",
+    "ASANCOL_LIMIT",
+    "ASANCOL_PATIENCE",
+    "ASANCOL_LOG",
+    "ASANCOL_ALL",
+    "ASANCOL_HALT",
+    "ASANCOL_STOP",
+    "ASANCOL_REPORT",
+    "ASANCOL_SYMBOLIZER",
+    "ASANCOL_SEGMENTS",
+    "ASANCOL_LEAKS",
+    "ASANCOL_MISMATCHES",
+    "ASANCOL_USE_AFTER_RETURN",
+    "ASANCOL_LIBRARIES",
+    "ASANCOL_FULL",
+    "ASANCOL_OUTER",
+    "ASANCOL_RUN",
+    "ASANCOL_ODR",
+    "ASANCOL_ROOT",
+    "ASANCOL_INIT_ORDER",
+    "ASANCOL_POINTER_PAIRS",
+    "ASANCOL_MAY_RETURN_NULL",
+    "ASANCOL_TEXT",
 #define FRONT(name, end, variable, usual, has_new, links_libm) variable,
 #include "wrapper/fronts.def"
 };
@@ -216,7 +237,7 @@ static const char *kept_value(const char *name, struct entry *entry)
 /* Where the stream goes: the trace comes first, and then the hub. */
 static void read_outputs(struct settings *settings)
 {
-    static AS_TABLE struct entry trace, beside, hub, socket;
+    static AS_TABLE struct entry trace, beside, hub, socket, text;
     settings->trace = name_from_root("ASANCOL_TRACE", &trace);
     const char *named = kept_value("ASANCOL_HUB", &hub);
     settings->hub = settings->trace == NULL ? named : NULL;
@@ -224,6 +245,7 @@ static void read_outputs(struct settings *settings)
     settings->socket = settings->trace == NULL && named == NULL ? kept_value("ASANCOL_SOCKET", &socket) : NULL;
     if (settings->hub != NULL)
         settings->trace = traces_beside(settings->hub, &beside);
+    settings->text = settings->hub != NULL ? kept_value("ASANCOL_TEXT", &text) : NULL;
 }
 
 /* What AddressSanitizer has options for too. A variable of ASANCOL comes first, except that a process can turn leaks

@@ -7,6 +7,11 @@
    A waiting preloaded recorder begins there too, and the process goes on. */
 #include "process/halt.h"
 
+#include <string.h>
+#include <sys/stat.h>
+#include <unistd.h>
+
+#include "base/digits.h"
 #include "base/self.h"
 #include "base/system.h"
 #include "process/halt_report.h"
@@ -37,6 +42,21 @@ static void record(enum code code, unsigned width, uint64_t address, uintptr_t c
         record_bad_free(address, caller, whole->call);
     else
         record_piece_of(code, width, address, caller, whole);
+}
+
+/* Whether the run has this report, and prints it where this process would. The run names functions and lines. */
+static bool is_left_to_run(void)
+{
+    char digits[DIGITS_ROOM];
+    struct stat seen;
+    const char *file = recorder_settings()->text;
+    if (file == NULL || !is_on() || !is_hub() || system_fstat(STDERR_FILENO, &seen) != 0)
+        return false;
+    const char *device = put_digits(digits + sizeof digits, seen.st_dev, 1);
+    size_t length = strlen(device);
+    if (strncmp(file, device, length) != 0 || file[length] != ':')
+        return false;
+    return strcmp(file + length + 1, put_digits(digits + sizeof digits, seen.st_ino, 1)) == 0;
 }
 
 /* Prints the report on standard error. The process does it by itself, since perhaps nobody else will: under a fuzzer
@@ -83,9 +103,11 @@ void halt_at(enum code code, unsigned width, uint64_t address, uintptr_t caller,
         return;
     if (recorder_begins_late() && recorder_begin_late())
         record(code, width, address, caller, whole);
-    side_note_halted();
+    bool is_left = is_left_to_run();
+    side_note_halted(is_left ? HALTED_UNSAID : HALTED_AND_SAID);
     recorder_finish(FINISH_CLOSED);
-    say_what(code, width, address, caller, whole);
+    if (!is_left || !side_is_at_exit())
+        say_what(code, width, address, caller, whole);
     if (is_telling() && code == CODE_FREE)
         above.tell(&(struct told){.code = code, .caller = caller, .address = address, .call = whole->call});
     else if (is_telling())

@@ -529,11 +529,17 @@ void side_note_first_name(void)
     } while (memcmp(note.name, again.name, sizeof note.name) != 0);
 }
 
-void side_note_halted(void)
+void side_note_halted(enum side_halted how)
 {
     struct side *side = side_now();
     if (side != NULL)
-        put_word(&((struct side_settings *)((unsigned char *)side + SIDE_SETTINGS))->has_halted, 1);
+        put_word(&((struct side_settings *)((unsigned char *)side + SIDE_SETTINGS))->has_halted, how);
+}
+
+bool side_is_at_exit(void)
+{
+    const struct side *side = side_now();
+    return side != NULL && word_at(&side->ending) == ENDING_EXIT;
 }
 
 void side_note_inside(int number)

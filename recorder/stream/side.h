@@ -98,7 +98,9 @@ struct side_last {
 };
 void side_note_last(const struct side_last *last);
 /* The process ends itself at its first report. */
-void side_note_halted(void);
+void side_note_halted(enum side_halted how);
+/* Whether the end of the process that it notes is an exit, so that the hub has everything. */
+bool side_is_at_exit(void);
 /* The first thread was given the name that stands in its notes (thread_notes.h). */
 void side_note_first_name(void);
 /* The recorder's own code has met a fault, by this signal, of which the process dies. */

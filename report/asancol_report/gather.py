@@ -108,6 +108,7 @@ class Gatherer:
         # Where each process was that a signal has ended, by its number.
         self.last: Dict[int, Crashed] = {}
         self.came = Came()
+        self.is_each_kept = False  # the findings of the latest process are wanted as it has them
         # The processes of each finding that was seen, by its identity.
         self.seen_in: Dict[int, int] = {}
 
@@ -126,7 +127,7 @@ class Gatherer:
             if self.modules.is_full():
                 self.symbols.look_up()
         found = self.take_findings(process, pid, side, segment) if side else 0
-        if side is not None and self.results.has_addresses:
+        if side is not None and (self.results.has_addresses or self.is_each_kept):
             self.results.bases[self.run, process] = {it.path: it.base for it in side.maps}
         if side is not None and side.is_good and not side.maps and (lines.groups or found):
             self.results.notes[NO_MODULES] = None
@@ -241,7 +242,7 @@ class Gatherer:
             times = sighting.count or int(known is None)  # pieces alone are none, if they are pieces of a known access
             first = sighting.first._replace(times=times, processes=added, lost=sighting.lost)
             self.results.add(finding, self.run, first)
-            if self.results.has_log:
+            if self.results.has_log or self.is_each_kept:
                 self.came.findings.append(finding_alone(sighting, self.run))
         self.sightings.clear()
         self.note_last()

@@ -37,7 +37,7 @@ class Hub:
     """The run whose packets come on a socket."""
 
     def __init__(self, results: Results, new_gatherer: Callable[[int], Gatherer],
-                 come: Callable[[Gatherer], None]) -> None:
+                 come: Callable[[Gatherer, Process], None]) -> None:
         self.results = results
         self.new_gatherer = new_gatherer
         self.come = come  # is called when a process with reports was taken in
@@ -130,12 +130,15 @@ class Hub:
         for each in descriptors[end:]:
             self.gatherer.modules.give(each)
         side = self.side_of(text_of(entry.get("trace")), descriptors[1:end])
+        if process.is_unsaid:
+            self.gatherer.finish()
+        self.gatherer.is_each_kept = process.is_unsaid
         try:
             self.gatherer.take(process.number, process.pid, descriptors[0], side, segment or 1)
         finally:
             if side is not None:
                 side.close()
-        self.come(self.gatherer)
+        self.come(self.gatherer, process)
 
     def known(self, process: Process) -> Process:
         """Returns a process with what else is known of it."""
@@ -168,8 +171,8 @@ class CannotCheck(Broken):
 class Files(Hub):
     """A process whose traces lie in files, as a run of its own."""
 
-    def __init__(self, results: Results, new_gatherer: Callable[[int], Gatherer], come: Callable[[Gatherer], None],
-                 segments: List[Segment]) -> None:
+    def __init__(self, results: Results, new_gatherer: Callable[[int], Gatherer],
+                 come: Callable[[Gatherer, Process], None], segments: List[Segment]) -> None:
         super().__init__(results, new_gatherer, come)
         self.segments = segments
         self.trace = segments[0].path
@@ -221,7 +224,7 @@ class Files(Hub):
         run.system, run.system_more = ended.system, ended.system_more
 
     def known(self, process: Process) -> Process:
-        """Returns a process with what the names of its files say."""
+        """Returns a process with what the names of its files say. If it left its text to its run, that printed it."""
         command = process.command if process.pid and process.command else (self.trace,)
         return process._replace(command=command, pid=process.pid or number_in(self.trace),
-                                kept=os.path.abspath(self.trace))
+                                kept=os.path.abspath(self.trace), is_unsaid=False)

@@ -328,7 +328,7 @@ def process_of(entry: Entry, commands: Commands) -> Process:
                    next((it for it in ACCESSES.values() if it == get("access")), ""),
                    threads_of(entry) if "threads" in entry or "thread" in entry else NO_THREADS,
                    number_of(get("findings")), get("awaited") is True, number_of(get("used_again")),
-                   get("halted") is True)
+                   get("halted") is True, get("unsaid") is True)
 
 
 def frame_of(entry: object) -> Frame:

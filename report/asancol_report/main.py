@@ -18,7 +18,7 @@ from .gather import Gatherer
 from .json_lines import read_whole
 from .modules import Modules
 from .options import Options
-from .results import Results
+from .results import Process, Results
 from .sources import Sources
 from .suppressions import Suppressions
 from .symbols import Symbols
@@ -234,20 +234,33 @@ class Report:
             self.fail(error)
             self.results.runs[gatherer.run].cut = str(error)
 
-    def come(self, gatherer: Gatherer) -> None:
-        """Prints new places, if they are to be printed at once."""
-        if not self.is_live and self.log is None:
+    def come(self, gatherer: Gatherer, process: Process) -> None:
+        """Prints what a process has left to its run, and new places, if they are to be printed at once."""
+        if not self.is_live and self.log is None and not process.is_unsaid:
             return
         new = gatherer.finish()
+        if process.is_unsaid:
+            self.print_halted(gatherer.came.findings)
         if self.log is not None:
             self.write_log(partial(self.log.take, gatherer))
+        gatherer.came.findings.clear()
         if not self.is_live:
             return
         self.suppressions.apply(new)
         if self.baseline:
             self.baseline.apply(new)
         self.results.fold()
-        self.text.new_places(new, self.results)
+        self.text.new_places([it for it in new if it.place not in self.text.shown], self.results)
+        self.flush()
+
+    def print_halted(self, findings: List[Finding]) -> None:
+        """Prints the reports of a process that has halted, in the words that it would have printed."""
+        from .asan_text import AsanText
+        counted = [finding for finding in findings if self.counts(finding)]
+        for finding in counted:
+            self.text.shown[finding.place] = self.text.shown.get(finding.place, 0) + 1
+        text = AsanText(sys.stdout, Colors(False), self.root, False)
+        text.write(text.findings_text(sorted(counted, key=lambda it: it.order), self.results))
         self.flush()
 
     def judge(self) -> None:

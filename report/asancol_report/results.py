@@ -40,6 +40,7 @@ class Process(NamedTuple):
     is_awaited: bool = False  # its parent has waited for its crash or halt, and the command has ended well all the same
     used_again: int = 0  # how many bytes of blocks it had handed out when freed memory came again; 0: it never has
     has_halted: bool = False  # it has ended itself at its first report, by ASANCOL_HALT
+    is_unsaid: bool = False  # and has left it to its run to print that
 
     @property
     def is_crash(self) -> bool:

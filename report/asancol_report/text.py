@@ -7,7 +7,7 @@ from typing import Callable, Dict, Iterable, Iterator, List, Optional, TextIO
 from . import shadow_rows
 from .class_names import TITLES
 from .crashes import own_calls
-from .findings import Block, BY_RECORDER, Finding, FORGOTTEN, Frame, place_text, Stack, Threads
+from .findings import Block, BY_RECORDER, Finding, FORGOTTEN, Frame, Place, place_text, Stack, Threads
 from .functions import brief
 from .leaks import text_of_runs
 from .results import Process, Results, Run
@@ -46,21 +46,24 @@ class Text:
         self.has_shadow = has_shadow
         self.elsewhere = elsewhere  # the files that have all places
         self.places = 0  # that were printed
+        self.shown: Dict[Place, int] = {}  # those that processes have halted at, and how often they were printed
         self.short: Dict[str, str] = {}  # notes that were printed before, and how they are printed again
 
     def write(self, lines: Iterator[str]) -> None:
         self.out.write("".join(line + "\n" for line in lines))
 
     def report(self, results: Results, is_live: bool) -> None:
-        """Writes all findings that count, and the summary. Those of a live report were written before: their counts
-        follow."""
+        """Writes all findings that count, and the summary. Those of a live report, or of a process that has halted,
+        were written before: their counts follow."""
         counted = results.counted()
+        rest = [finding for finding in counted if finding.place not in self.shown]
+        before = counted if is_live else [finding for finding in counted if finding.place in self.shown]
         if not is_live:
-            self.all_places(counted, results)
-        for finding in counted[:MAX_PLACES] if is_live else ():
-            if finding.count > 1:
+            self.all_places(rest, results)
+        for finding in before[:MAX_PLACES]:
+            if finding.count > self.shown.get(finding.place, 1):
                 self.write(iter([self.count_line(finding)]))
-        self.write(self.left_out(sum(finding.follows is None for finding in counted)))
+        self.write(self.left_out(sum(finding.follows is None for finding in rest)))
         self.write(self.summary(results))
 
     def all_places(self, findings: Iterable[Finding], results: Results) -> None:

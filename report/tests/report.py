@@ -14,7 +14,7 @@ from typing import Any, Dict, List, Optional, Tuple
 from testing import NO_SETTINGS, expect, expect_in, expect_not_in, leave_out, reports, wait_until
 from testing.programs import Started
 from testing.reports import END, FREED, OVERFLOW, Feed, build, freed_block, one_trace, report, report_test, write_trace
-from testing.side import fault, of_program, side
+from testing.side import SIGNAL, fault, of_program, side
 
 WANTED_TEXT = """\
 ==7==ERROR: asancol: heap-buffer-overflow: store of 1 byte
@@ -445,6 +445,30 @@ def live(folder: str) -> None:
         "asancol: heap-use-after-free in use program.c:7: 2 times, 2 processes",
         "asancol: 2 reports at 1 place; 2 processes, 18 events; all complete",
         "SUMMARY: asancol: heap-use-after-free program.c:7 in use"], "the end")
+
+
+@report_test
+def halted_process_is_printed_at_once(folder: str) -> None:
+    """If it has left that to its run: in AddressSanitizer's text, for each process. A place that another one has too
+    has its count at the end."""
+    program = build(folder)
+    parts = of_program(program, [freed_block(program)], [0, 0, 0, 0, 1], ending=SIGNAL, signal=6)
+    halted: Dict[str, Any] = {"signal": 6, "fate": "no-close", "why": "ended by SIGABRT", "halted": True}
+    for word in ("--live", "--no-machines", "--format=asan"):
+        feed = Feed(folder, word, "--source-root", ".", "--json", "a.jsonl")
+        feed.begin()
+        for number in (0, 1):
+            feed.process(number, FREED + END, parts, unsaid=True, **halted)
+            assert feed.child.stdout is not None
+            last = f"=={100 + number}==ABORTING\n".encode()
+            text = b"".join(iter(feed.child.stdout.readline, last)).decode()
+            expect_in(text, f"=={100 + number}==ERROR: AddressSanitizer: heap-use-after-free on address ")
+        feed.process(2, FREED + END, parts, **halted)
+        ran = feed.end()
+        expect(ran.out.count("ERROR"), 0, "later findings")
+        expect_in(without_columns(ran.out), "asancol: heap-use-after-free in use program.c:7: 3 times, 3 processes\n"
+                  "asancol: 3 reports at 1 place; 3 processes, 27 events; all complete\n")
+        expect_in(report(folder, "a.jsonl").out, "ERROR: asancol: heap-use-after-free: load of 4 bytes (3 times")
 
 
 @report_test

@@ -3,14 +3,17 @@
 import glob
 import os
 import re
+import signal
 import subprocess
 from typing import List, Tuple
 
 from leaks import PROGRAM, make
-from support import REPORT, SANITIZE, TOP, Suite, expect, expect_in, expect_ran, leave_out, write_text
+from support import (REPORT, RUN, SANITIZE, TOP, Ran, Suite, expect, expect_in, expect_not_in, expect_ran, leave_out,
+                     write_text)
 from testing.programs import call, compilers_there
 
 PAST = "heap-buffer-overflow: store of 1 byte"
+HALTED = "ERROR: AddressSanitizer: heap-buffer-overflow on "
 SOURCES = f"{TOP}/recorder/out/suites/sources/llvm-toolchain-14/compiler-rt/lib"
 NOTE = ("asancol: ASAN_OPTIONS: without effect here: log_to_syslog=1, start_deactivated=1; "
         "unknown: halt_on_eror=1 (is halt_on_error meant?), x\n")
@@ -25,7 +28,7 @@ def check_statuses(suite: Suite, folder: str) -> None:
     ran(7, PAST, option="--error-exitcode=7", ASAN_OPTIONS="exitcode=42")
     ran(43, PAST, ASAN_OPTIONS="exitcode=42", LSAN_OPTIONS="verbosity=1:exitcode='43'")
     ran(99, "ASAN_OPTIONS: without effect here: exitcode=300\n", ASAN_OPTIONS="exitcode=300")
-    ran(99, PAST, "ERROR: AddressSanitizer: heap-buffer-overflow on ", ASAN_OPTIONS="halt_on_error=1")
+    ran(99, HALTED, "in store_past ", ASAN_OPTIONS="halt_on_error=1")
     ran(99, PAST, "all complete\n", ASAN_OPTIONS="halt_on_error=1", ASANCOL_HALT="0")
     ran(99, "1048576 bytes of freed memory are held back (--quarantine)", option="--full",
         ASAN_OPTIONS="quarantine_size_mb=1")
@@ -129,11 +132,63 @@ def check_death_test(suite: Suite, folder: str) -> None:
     expect_in(suite.run_argv([REPORT, "--crashes", result]).out, PAST, "asancol: 1 report at 1 place; 2 processes, ")
     expect_ran(suite.run("--", f"{folder}/d", **halts), 0, "asancol: no reports; 2 processes, ", line)
     expect_ran(suite.run("-q", "--", f"{folder}/d", **halts), 0, absent=["asancol: "])
-    expect_ran(suite.run("--crashes", "--", f"{folder}/d", **halts), 99, PAST, absent=["waited for"])
-    expect_ran(suite.run("--", "sh", "-c", f"{folder}/d; {folder}/d 2 3; true", **halts), 99, PAST)
-    expect_ran(suite.run("--", "sh", "-c", f"{suite.program} past; true", **halts), 99, PAST, absent=["waited for"])
-    expect_ran(suite.run("--", "sh", "-c", f"{folder}/d; exit 3", **halts), 99, PAST, absent=["waited for"])
+    expect_ran(suite.run("--crashes", "--", f"{folder}/d", **halts), 99, HALTED, absent=["waited for"])
+    expect_ran(suite.run("--", "sh", "-c", f"{folder}/d; {folder}/d 2 3; true", **halts), 99, HALTED)
+    expect_ran(suite.run("--", "sh", "-c", f"{suite.program} past; true", **halts), 99, HALTED, absent=["waited for"])
+    expect_ran(suite.run("--", "sh", "-c", f"{folder}/d; exit 3", **halts), 99, HALTED, absent=["waited for"])
     expect_ran(suite.run("--", f"{folder}/d", ASANCOL_REPORT=REPORT), 99, PAST, absent=["waited for"])
+
+
+def check_halts(suite: Suite, folder: str) -> None:
+    """A report at which a process has halted stands once in each file: with functions and lines by the run, or by the
+    process itself, if its standard error is another file."""
+    halts = {"ASAN_OPTIONS": "halt_on_error=1", "ASANCOL_REPORT": REPORT}
+    past = f"{suite.program} past"
+
+    def read(path: str) -> str:
+        with open(path, encoding="utf-8") as file:
+            return file.read()
+
+    def texts(ran: Ran, status: int = 99) -> Tuple[int, int]:
+        expect(ran.status, status, ran.err)
+        return ran.err.count(HALTED), ran.err.count("ERROR: ")
+    for word in ("--wait=5", "--format=asan", "--live", "-q"):
+        for halt in ("1", "2"):
+            ran = suite.run(word, "--", *past.split(), ASANCOL_HALT=halt, **halts)
+            expect(texts(ran), (1, 1), ran.err)
+            expect_in(ran.err, " in store_past ", "asancol: 1 report at 1 place; 1 process, ")
+    ran = suite.run_argv(past.split(), ASANCOL_RUN=RUN, **halts)
+    expect(texts(ran), (1, 1), ran.err)
+    expect_in(ran.err, " in store_past ")
+    for argv in (["--", "sh", "-c", f"{past} 2> {folder}/e"], ["--log-file", f"{folder}/log", "--", *past.split()]):
+        ran = suite.run(*argv, **halts)
+        own = ran.err if "--log-file" in argv else read(f"{folder}/e")
+        ours = ran.err if own is not ran.err else read(f"{folder}/log")
+        expect((own.count("ERROR: "), own.count(HALTED), ours.count("ERROR: "), ours.count(HALTED)), (1, 1, 1, 0), ours)
+        expect_not_in(own, "store_past")
+        expect_in(ours, PAST, "in store_past ")
+    result = f"{folder}/r"
+    line = f"{past}; {past}; {past} 2> {folder}/e"
+    ran = suite.run("--json", result, "--keep", f"{folder}/kept", "--", "sh", "-c", line, **halts)
+    expect(texts(ran), (2, 2), ran.err)
+    expect_in(ran.err, ": 3 times, 3 processes\n", "asancol: 3 reports at 1 place; 3 processes, ")
+    for argv in ([result], ["--trace", *glob.glob(f"{folder}/kept/*.trace")]):
+        expect_in(suite.run_argv([REPORT, *argv]).out, PAST, " (3 times, 3 processes)\n", "in store_past ")
+    write_text(f"{folder}/known", "at:heap-buffer-overflow:store_past\n")
+    ran = suite.run("--suppressions", f"{folder}/known", "--", *past.split(), **halts)
+    expect(texts(ran, -signal.SIGABRT), (0, 0), ran.err)
+
+
+def check_at_once(suite: Suite, folder: str) -> None:
+    """It stands there before the command goes on for long."""
+    line = f"{suite.program} past; until grep -q AddressSanitizer {folder}/e; do sleep 0.1; done; echo later >&2"
+    with open(f"{folder}/e", "wb") as err:
+        done = call([RUN, "--", "sh", "-c", line], stderr=err, timeout=60,
+                    env=suite.environment(ASANCOL_HALT="1", ASANCOL_REPORT=REPORT))
+    expect(done.returncode, 99, "status")
+    with open(f"{folder}/e", encoding="utf-8") as file:
+        text = file.read()
+    expect(text.index(HALTED) < text.index("later") < text.index("asancol: 1 report"), True, text)
 
 
 def check_functions(suite: Suite, folder: str) -> None:
@@ -237,7 +292,7 @@ def tests(suite: Suite) -> None:
         return
     for name, run in (
         ("statuses", check_statuses), ("named", check_named), ("leaks", check_leaks), ("functions", check_functions),
-        ("death test", check_death_test),
+        ("death test", check_death_test), ("halts", check_halts), ("halts at once", check_at_once),
         ("mismatches", check_mismatches), ("mistakes", check_mistakes), ("same options", check_same_options),
         ("relative suppressions", check_relative_rules), ("fates", check_fates),
     ):

@@ -1,6 +1,7 @@
 """Options and statuses of asancol-run."""
 
 import os
+import re
 from typing import Dict, List, Tuple
 
 from support import REPORT, TESTS, Failure, Suite, expect, expect_ran
@@ -284,6 +285,7 @@ def check_environment(suite: Suite, folder: str) -> None:
     hub = after.pop("ASANCOL_HUB")
     expect(hub.startswith("/"), True, "an absolute name")
     expect(after.pop("ASANCOL_LEAKS"), "1", "leaks are looked for")
+    expect(re.fullmatch(r"\d+:\d+", after.pop("ASANCOL_TEXT")) is not None, True, "where the text goes")
     for name in ("ASANCOL_TRACE", "ASANCOL_SOCKET"):
         del before[name]
     expect(after, before, "environment")

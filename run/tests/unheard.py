@@ -364,7 +364,8 @@ def check_lost_environment(suite: Suite, folder: str) -> None:
                "./good: INCOMPLETE: ASANCOL_TRACE is set for it, so its trace is there")
     for name, text in (("ASANCOL_LIMIT", "reached the event limit: "),
                        ("ASANCOL_HALT", "ERROR: AddressSanitizer: heap-")):
-        ran = suite.run("--", "env", "-i", "./lost", "f", cwd=folder, ASANCOL_SEGMENTS="0", **{name: "1"})
+        ran = suite.run("--", "env", "-i", "./lost", "f", cwd=folder, ASANCOL_SEGMENTS="0", ASANCOL_REPORT=REPORT,
+                        **{name: "1"})
         expect_in(ran.err, text)
 
 
