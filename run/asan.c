@@ -145,7 +145,13 @@ static enum done take_log(struct options *options, const char *path)
         return HARMLESS;
     if (strcmp(path, "stdout") == 0)
         return give(options, "log-file", "/dev/stdout");
-    return make_folders_above(path) ? give(options, "log-path", escaped(path)) : WITHOUT_EFFECT;
+    if (!make_folders_above(path))
+        return WITHOUT_EFFECT;
+    enum done done = give(options, "log-path", escaped(path));
+    if (done == TAKEN)
+        strings_add(&options->report, "--log-alone");
+    options->log_is_alone |= done == TAKEN;
+    return done;
 }
 
 /* Gives our own option for it its value. */

@@ -22,14 +22,15 @@
 #include "signals.h"
 
 /* Where our text goes: a process that halts there leaves its report to us. */
-static void set_text(void)
+static void set_text(const struct options *options)
 {
     struct stat seen;
-    char file[48];
+    char file[48] = "log";
     unsetenv("ASANCOL_TEXT");
-    if (fstat(say_descriptor(), &seen) != 0)
+    if (!options->log_is_alone && fstat(say_descriptor(), &seen) != 0)
         return;
-    snprintf(file, sizeof file, "%ju:%ju", (uintmax_t)seen.st_dev, (uintmax_t)seen.st_ino);
+    if (!options->log_is_alone)
+        snprintf(file, sizeof file, "%ju:%ju", (uintmax_t)seen.st_dev, (uintmax_t)seen.st_ino);
     setenv("ASANCOL_TEXT", file, 1);
 }
 
@@ -42,7 +43,7 @@ static void set_environment(const struct options *options, const char *hub)
     if (options->served != 0)
         setenv("ASANCOL_ROOT", number, 1);
     setenv("ASANCOL_HUB", hub, 1);
-    set_text();
+    set_text(options);
     unsetenv("ASANCOL_TRACE");
     unsetenv("ASANCOL_SOCKET");
     unsetenv("ASANCOL_STOP"); /* a debugger is run by itself */

@@ -41,6 +41,7 @@ struct options {
     bool may_halt, allows_mismatches, allows_returns;
     struct strings asan_notes, asan_taken;
     bool demands_leaks; /* --leaks=yes was given: that wins */
+    bool log_is_alone;  /* the files of --log-path alone have reports, as ASAN_OPTIONS asks for it */
     const char *for_inner; /* given options that hold for runs inside this one too: options, one a line; or null */
     struct strings check;   /* for asancol check */
     struct strings report;  /* for asancol-report, */

@@ -1,7 +1,10 @@
 /* Four texts, of which the last word for an option counts. They are kept by address, and looked at only at the start:
    later the program may write over its environment. By then it is noted which calls are not checked, and which lines go
    beside the trace. */
+#define _GNU_SOURCE
 #include "environment/asan_options.h"
+
+#include <limits.h>
 
 #include "base/platform.h"
 
@@ -41,6 +44,23 @@ bool asan_options_say(enum asan_option option, bool otherwise)
     if (!find(option, &word))
         return otherwise;
     return otherwise ? !asan_is_no(&word) : asan_is_yes(&word);
+}
+
+static AS_TABLE char log_path[PATH_MAX];
+
+const char *asan_options_log(void)
+{
+    return log_path;
+}
+
+/* A name that is too long is none. */
+static void read_log_path(void)
+{
+    struct asan_word word;
+    if (!find(ASAN_log_path, &word) || word.value_length >= sizeof log_path || asan_is_word(&word, "stderr"))
+        return;
+    memcpy(log_path, word.value, word.value_length);
+    log_path[word.value_length] = 0;
 }
 
 /* The functions whose checks an option turns off. A form of them, as __memcpy_chk, is not named. */
@@ -178,6 +198,7 @@ void asan_options_read(const char *asan, const char *lsan)
     texts[IN_LSAN] = text_or_none(lsan);
     for (size_t i = 0; i < sizeof are_unchecked; i++)
         are_unchecked[i] = !asan_options_say(checks_of_calls[i].option, true);
+    read_log_path();
     name_without_effect(texts[OF_ASAN], " (__asan_default_options)");
     name_without_effect(texts[OF_LSAN], " (__lsan_default_options)");
     add_suppressions(__asan_default_suppressions());

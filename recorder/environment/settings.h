@@ -22,7 +22,7 @@ struct settings {
     const char *trace;  /* the name of the trace with %p, from the root, or null; with a hub, where it goes if the hub
                            can't be reached */
     const char *socket; /* or null */
-    const char *text;   /* the file to which the run prints: "DEVICE:NODE", or null */
+    const char *text;   /* the file to which the run prints: "DEVICE:NODE", "log" (of log_path), or null */
     uint64_t limit;    /* of events in a stream */
     uint64_t segments; /* how many of a process are kept; 0: the limit ends the recording */
     uint64_t stop; /* the event at which the process stops; 0: none */

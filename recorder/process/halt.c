@@ -9,7 +9,6 @@
 
 #include <string.h>
 #include <sys/stat.h>
-#include <unistd.h>
 
 #include "base/digits.h"
 #include "base/self.h"
@@ -50,8 +49,11 @@ static bool is_left_to_run(void)
     char digits[DIGITS_ROOM];
     struct stat seen;
     const char *file = recorder_settings()->text;
-    if (file == NULL || !is_on() || !is_hub() || system_fstat(STDERR_FILENO, &seen) != 0)
+    int target = halt_report_descriptor();
+    if (file == NULL || !is_on() || !is_hub())
         return false;
+    if (target < 0 || system_fstat(target, &seen) != 0)
+        return target < 0 && strcmp(file, "log") == 0;
     const char *device = put_digits(digits + sizeof digits, seen.st_dev, 1);
     size_t length = strlen(device);
     if (strncmp(file, device, length) != 0 || file[length] != ':')
@@ -59,8 +61,8 @@ static bool is_left_to_run(void)
     return strcmp(file + length + 1, put_digits(digits + sizeof digits, seen.st_ino, 1)) == 0;
 }
 
-/* Prints the report on standard error. The process does it by itself, since perhaps nobody else will: under a fuzzer
-   there is no asancol-report. */
+/* Prints the report. The process does it by itself, since perhaps nobody else will: under a fuzzer there is no
+   asancol-report. */
 static void say_what(enum code code, unsigned width, uint64_t address, uintptr_t caller, const struct access *whole)
 {
     struct access alone = access_of(code, address, width, caller, NULL);

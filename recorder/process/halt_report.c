@@ -5,6 +5,7 @@
 
 #include <dlfcn.h>
 #include <errno.h>
+#include <fcntl.h>
 #include <limits.h>
 #include <link.h>
 #include <stdbool.h>
@@ -14,7 +15,9 @@
 #include "base/digits.h"
 #include "base/disturbance.h"
 #include "base/memory.h"
+#include "base/platform.h"
 #include "base/system.h"
+#include "environment/asan_options.h"
 #include "libc/library.h"
 #include "heap/arena.h"
 #include "shadow/shadow.h"
@@ -25,18 +28,19 @@
 /* An address has at least this many digits, as in AddressSanitizer. */
 enum { ADDRESS_DIGITS = 12 };
 
-/* What waits to be written. */
+/* What waits to be written, and where. */
 static struct {
     char bytes[1 << 12];
     size_t length;
+    int descriptor;
 } text;
 
-/* Writes what waits to standard error, without the signals that a closed pipe, or a limit, would send. */
+/* Writes what waits, without the signals that a closed pipe, or a limit, would send. */
 static void flush(void)
 {
     size_t done = 0;
     while (done < text.length) {
-        ssize_t count = system_write(STDERR_FILENO, text.bytes + done, text.length - done);
+        ssize_t count = system_write(text.descriptor, text.bytes + done, text.length - done);
         if (count == -EINTR)
             continue;
         if (count <= 0) {
@@ -309,6 +313,27 @@ static const char *put_free(uint64_t address, const struct nearest *block)
     return is_again ? "double-free" : "bad-free";
 }
 
+int halt_report_descriptor(void)
+{
+    const char *log = asan_options_log();
+    return log[0] == 0 ? STDERR_FILENO : strcmp(log, "stdout") == 0 ? STDOUT_FILENO : -1;
+}
+
+/* Where the text goes; of a file that can't be opened to standard error. */
+static int open_target(void)
+{
+    static AS_TABLE char path[PATH_MAX + 1 + DIGITS_ROOM];
+    char digits[DIGITS_ROOM];
+    int target = halt_report_descriptor();
+    if (target >= 0)
+        return target;
+    strcpy(path, asan_options_log());
+    strcat(path, ".");
+    strcat(path, put_digits(digits + sizeof digits, (unsigned)system_getpid(), 1));
+    target = system_open(path, O_WRONLY | O_CREAT | O_TRUNC | O_CLOEXEC | O_NOCTTY, 0666);
+    return target >= 0 ? target : STDERR_FILENO;
+}
+
 void halt_report(const struct access *access, unsigned width, uint64_t address)
 {
     struct disturbance before;
@@ -317,6 +342,7 @@ void halt_report(const struct access *access, unsigned width, uint64_t address)
     bool is_free = access->code == CODE_FREE;
     uint64_t bad = is_free ? address : shadow_first_bad(address, width);
     undisturbed_begin(&before);
+    text.descriptor = open_target();
     if (is_in_arena(bad))
         arena_find_nearest(bad, &block);
     put("=================================================================\n");
@@ -327,5 +353,7 @@ void halt_report(const struct access *access, unsigned width, uint64_t address)
     put_block(bad, &block);
     put_end(class, of);
     flush();
+    if (text.descriptor != halt_report_descriptor() && text.descriptor != STDERR_FILENO)
+        system_close(text.descriptor);
     undisturbed_end(&before);
 }

@@ -11,5 +11,7 @@
 
 /* Prints it on descriptor 2, whatever is there. By one thread, once. */
 void halt_report(const struct access *access, unsigned width, uint64_t address);
+/* The open descriptor to which it writes, or -1: it opens a file for that. */
+int halt_report_descriptor(void);
 
 #endif

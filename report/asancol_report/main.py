@@ -81,8 +81,13 @@ class Report:
             self.fail(error)
 
     @property
+    def is_log_alone(self) -> bool:
+        """Whether the files of --log-path alone have reports."""
+        return self.options.switches["--log-alone"]
+
+    @property
     def is_live(self) -> bool:
-        return self.options.switches["--live"] and self.options.has_text
+        return self.options.switches["--live"] and self.options.has_text and not self.is_log_alone
 
     def fail(self, error: object) -> None:
         say(error)
@@ -239,7 +244,7 @@ class Report:
         if not self.is_live and self.log is None and not process.is_unsaid:
             return
         new = gatherer.finish()
-        if process.is_unsaid:
+        if process.is_unsaid and not self.is_log_alone:
             self.print_halted(gatherer.came.findings)
         if self.log is not None:
             self.write_log(partial(self.log.take, gatherer))
@@ -275,10 +280,14 @@ class Report:
     def write(self) -> None:
         results = self.results
         says_unchecked = results.lists_unchecked and results.unchecked_count() > 0
-        is_clean = not results.counted() and results.is_complete() and not results.has_crash() and not says_unchecked
+        has_none = self.is_log_alone or not (results.counted() or results.has_crash())
+        is_clean = has_none and results.is_complete() and not says_unchecked
         if self.options.has_text and not (self.options.switches["--quiet"] and is_clean):
             try:
-                self.text.report(self.results, self.is_live)
+                if self.is_log_alone:
+                    self.text.write(self.text.summary(self.results, has_places=False))
+                else:
+                    self.text.report(self.results, self.is_live)
             except OSError as error:
                 self.fail_to_print(error)
         self.flush()

@@ -100,6 +100,7 @@ SWITCHES = (
     "--gen-suppressions",
     "--trace",
     "--run",
+    "--log-alone",
     "--help",
     "--version",
 )

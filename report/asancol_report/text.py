@@ -191,8 +191,9 @@ class Text:
         times = f"{finding.count} times, {plural(finding.processes, 'process')}"
         return f"asancol: {finding.class_name}{printable(function)} {printable(place)}: {times}"
 
-    def summary(self, results: Results) -> Iterator[str]:
-        yield from self.crashes(results, results.crashes())
+    def summary(self, results: Results, has_places: bool = True) -> Iterator[str]:
+        if has_places:
+            yield from self.crashes(results, results.crashes())
         yield from abrupt_lines(results.abrupt())
         yield from incomplete_lines([process for _, process in results.incomplete()])
         for run in results.runs:
@@ -210,7 +211,8 @@ class Text:
             yield f"asancol: {plural(results.gone, 'place')} of the baseline not seen in this run"
         for note in results.notes:
             yield f"asancol: {printable(self.short.get(note, note))}"
-        yield from self.last_line((*results.counted(), *results.counted_crashes())[:1])
+        if has_places:
+            yield from self.last_line((*results.counted(), *results.counted_crashes())[:1])
 
     def last_line(self, first: Iterable[Finding]) -> Iterator[str]:
         for finding in first:

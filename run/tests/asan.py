@@ -35,7 +35,7 @@ def check_statuses(suite: Suite, folder: str) -> None:
     ran(99, "1024 bytes of freed memory are held back (ASANCOL_QUARANTINE)", option="--full",
         ASAN_OPTIONS="quarantine_size_mb=1", ASANCOL_QUARANTINE="1024")
     for name in ("log", "new/of%b/log"):  # folders are made, and a percent sign is one
-        ran(99, PAST, ASAN_OPTIONS=f"log_path={folder}/{name}:detect_odr_violation=2")
+        ran(99, "asancol: 1 report ", ASAN_OPTIONS=f"log_path={folder}/{name}:detect_odr_violation=2")
         (log,) = glob.glob(f"{folder}/{name}.*")
         with open(log, encoding="utf-8") as file:
             expect(": AddressSanitizer: heap-buffer-overflow" in file.read(), True, "the file of the process")
@@ -179,6 +179,35 @@ def check_halts(suite: Suite, folder: str) -> None:
     expect(texts(ran, -signal.SIGABRT), (0, 0), ran.err)
 
 
+def check_log_path(suite: Suite, folder: str) -> None:
+    """The files alone have reports and crashes, as with AddressSanitizer: standard error has the summary of a run, and
+    nothing else."""
+    summary = re.compile(r"asancol: (1 report at 1 place|no reports); 1 process, \d+ events?; all complete.*\n")
+
+    def check(way: str, text: str, ran: Ran, is_said: bool) -> None:
+        (path,) = glob.glob(f"{folder}/log.*")
+        with open(path, encoding="utf-8") as file:
+            expect_in(file.read(), text)
+        os.unlink(path)
+        expect(summary.fullmatch(ran.err) is not None if is_said else ran.err == "", True, f"{way}: {ran.err}")
+        expect((ran.status, ran.out), (-signal.SIGSEGV if way == "crashes" else 99, ""), way)
+
+    for way, text in (("past", "in store_past "), ("crashes", "AddressSanitizer: SEGV ")):
+        for halts in ("0", "1"):
+            given = {"ASAN_OPTIONS": f"log_path={folder}/log:halt_on_error={halts}", "ASANCOL_REPORT": REPORT}
+            check(way, text, suite.run("--", suite.program, way, **given), True)
+            check(way, text, suite.run("--live", "--", suite.program, way, **given), True)
+            check(way, text, suite.run("-q", "--", suite.program, way, **given), False)
+            check(way, text, suite.run_argv([suite.program, way], ASANCOL_RUN=RUN, **given), False)
+    alone = suite.run_argv([suite.program, "past"], ASANCOL_HALT="1", ASAN_OPTIONS=f"log_path={folder}/alone")
+    expect((alone.status, alone.err), (-signal.SIGABRT, ""), "without a run")
+    (path,) = glob.glob(f"{folder}/alone.*")
+    with open(path, encoding="utf-8") as file:
+        expect_in(file.read(), HALTED)
+    ran = suite.run("--", suite.program, "past", ASAN_OPTIONS="log_path=stdout:halt_on_error=1", ASANCOL_REPORT=REPORT)
+    expect((ran.err, ran.out.count(HALTED), ran.out.count("in store_past ")), ("", 1, 1), ran.out)
+
+
 def check_at_once(suite: Suite, folder: str) -> None:
     """It stands there before the command goes on for long."""
     line = f"{suite.program} past; until grep -q AddressSanitizer {folder}/e; do sleep 0.1; done; echo later >&2"
@@ -293,6 +322,7 @@ def tests(suite: Suite) -> None:
     for name, run in (
         ("statuses", check_statuses), ("named", check_named), ("leaks", check_leaks), ("functions", check_functions),
         ("death test", check_death_test), ("halts", check_halts), ("halts at once", check_at_once),
+        ("log path", check_log_path),
         ("mismatches", check_mismatches), ("mistakes", check_mistakes), ("same options", check_same_options),
         ("relative suppressions", check_relative_rules), ("fates", check_fates),
     ):
