@@ -25,7 +25,8 @@
 /* What asancol-run ends with if it has not seen a process to its end. */
 enum { NOT_SEEN = 98 };
 
-static _Atomic bool has_asked;
+static _Atomic bool has_asked, is_asking;
+static _Atomic int answered = STATUS_STAYS, held; /* the signal that waits for the answer, or 0 */
 
 static bool is_root(void)
 {
@@ -42,12 +43,9 @@ static int number_of(const char *text)
     return *text == 0 ? number : STATUS_STAYS;
 }
 
-int root_end(int status)
+static int ask_for_status(int status)
 {
     char request[64] = ASK_STATUS "\n", answer[16], digits[DIGITS_ROOM];
-    if (!is_root() || atomic_exchange(&has_asked, true))
-        return STATUS_STAYS;
-    stream_hang_up();
     strcat(request, put_digits(digits + sizeof digits, (uint64_t)status, 1));
     long length = ask_for(recorder_hub(), request, true, answer, sizeof answer - 1, INT_MAX);
     if (length > 0) {
@@ -57,6 +55,32 @@ int root_end(int status)
     recorder_say("the end was not checked: ", startup_name(),
                  length == 0 ? "its run has ended before it, or was ended" : "its run can't be asked for the status");
     return length == 0 ? NOT_SEEN : STATUS_STAYS;
+}
+
+int root_end(int status)
+{
+    if (!is_root() || atomic_exchange(&has_asked, true))
+        return STATUS_STAYS;
+    stream_hang_up();
+    atomic_store(&is_asking, true);
+    int ends_with = ask_for_status(status);
+    atomic_store(&answered, ends_with);
+    atomic_store(&is_asking, false);
+    if (ends_with == STATUS_STAYS && atomic_load(&held) != 0)
+        system_tgkill(system_getpid(), system_gettid(), atomic_load(&held));
+    return ends_with;
+}
+
+int root_end_by_signal(int number)
+{
+    int ends_with = root_end(number);
+    return ends_with != STATUS_STAYS ? ends_with : atomic_load(&answered);
+}
+
+bool root_holds(int number)
+{
+    int none = 0;
+    return atomic_load(&is_asking) && recorder_is_own_process() && atomic_compare_exchange_strong(&held, &none, number);
 }
 
 /* A thread that stands still may hold any lock but that of the allocator: nothing but system calls is made. */

@@ -207,7 +207,7 @@ static void on_ending(int number, siginfo_t *info, void *context)
 {
     if (number == SIGBUS && info->si_code > 0 && stream_has_lost(info->si_addr))
         return;
-    if (has_to_wait(number, info, context))
+    if (has_to_wait(number, info, context) || (!is_fault(number, info) && root_holds(number)))
         return;
     struct met met = met_by(number, info, context);
     if (is_inside(number, info, &met)) {
@@ -219,7 +219,7 @@ static void on_ending(int number, siginfo_t *info, void *context)
         }
         recorder_finish_in_handler(number);
     }
-    int of_run = root_end(number);
+    int of_run = root_end_by_signal(number);
     if (of_run != STATUS_STAYS)
         system_exit(of_run);
     act_by_default(number);

@@ -241,6 +241,32 @@ def check_ended(suite: Suite, folder: str) -> None:
         expect(PAST in errors.decode(), way == "waits", f"a report at signal {number}")
 
 
+def check_ended_at_verdict(suite: Suite, folder: str) -> None:
+    """A signal that comes while the program waits for its verdict waits as well, and a second one ends it."""
+    program = make_lives(folder)
+    slow = f"{folder}/slow"
+    write_text(slow, f"#!/bin/sh\ntouch {folder}/begun\nuntil test -e {folder}/go; do sleep 0.1; done\n"
+                     f"exec {REPORT} \"$@\"\n")
+    os.chmod(slow, 0o755)
+    for number, again, status in ((signal.SIGTERM, False, 99), (signal.SIGINT, False, 99), (signal.SIGTERM, True, -15)):
+        argv = [program, "quickly" if number == signal.SIGTERM else "threads", "3"]
+        with Started(argv, env=suite.environment(ASANCOL_RUN=RUN, ASANCOL_REPORT=slow), stdin=subprocess.DEVNULL,
+                     stdout=subprocess.DEVNULL, stderr=subprocess.PIPE) as started:
+            wait_until(lambda: os.path.exists(f"{folder}/begun"), "the verdict")
+            started.send_signal(number)
+            time.sleep(0.5)
+            expect(started.poll(), None, "it waits")
+            if again:
+                started.send_signal(number)
+                expect(started.wait(), status, "its status")
+            write_text(f"{folder}/go", "")
+            errors = started.communicate()[1].decode()
+            expect(started.returncode, status, f"its status after {number}: {errors}")
+            expect_in(errors, PAST)
+        for name in ("begun", "go"):
+            os.unlink(f"{folder}/{name}")
+
+
 def check_daemon(suite: Suite, folder: str) -> None:
     """A program whose child lives on does not wait for that, nor does who reads what it prints. What the child does
     goes to the child's own standard error."""
@@ -288,6 +314,7 @@ def tests(suite: Suite) -> None:
         ("statuses", check_statuses), ("without asancol-run", check_without), ("static", check_static),
         ("linked", check_linked), ("place", check_place), ("streams", check_streams), ("closed", check_closed),
         ("ways out", check_ways_out), ("afterwards", check_afterwards), ("ended", check_ended),
+        ("ended at the verdict", check_ended_at_verdict),
         ("daemon", check_daemon), ("habits", check_habits), ("on a terminal", check_terminal),
     ):
         suite.test(f"own run: {name}", run)
