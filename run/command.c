@@ -17,17 +17,21 @@
 #include "common/inherited.h"
 #include "common/text.h"
 #include "hub.h"
+#include "names.h"
 #include "say.h"
 #include "serving.h"
 #include "signals.h"
 
-/* Where our text goes: a process that halts there leaves its report to us. */
+/* Where our text goes: a process that halts there leaves its report to us, unless nothing is there to print it. */
 static void set_text(const struct options *options)
 {
     struct stat seen;
     char file[48] = "log";
+    char *report = find_own_program("asancol-report", "ASANCOL_REPORT");
     unsetenv("ASANCOL_TEXT");
-    if (!options->log_is_alone && fstat(say_descriptor(), &seen) != 0)
+    bool is_there = report != NULL && (options->log_is_alone || fstat(say_descriptor(), &seen) == 0);
+    free(report);
+    if (!is_there)
         return;
     if (!options->log_is_alone)
         snprintf(file, sizeof file, "%ju:%ju", (uintmax_t)seen.st_dev, (uintmax_t)seen.st_ino);

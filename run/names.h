@@ -1,6 +1,7 @@
 /* Names of files with %p, %q{VAR} and %% in them, and where programs are.
 
-   Called: by options.c, checkers.c, preload.c, report.c and say.c, in the one thread of asancol-run; no lock. */
+   Called: by options.c, checkers.c, command.c, preload.c, report.c and say.c, in the one thread of asancol-run; no
+   lock. */
 #ifndef ASANCOL_RUN_NAMES_H
 #define ASANCOL_RUN_NAMES_H
 

@@ -174,6 +174,8 @@ def check_halts(suite: Suite, folder: str) -> None:
     expect_in(ran.err, ": 3 times, 3 processes\n", "asancol: 3 reports at 1 place; 3 processes, ")
     for argv in ([result], ["--trace", *glob.glob(f"{folder}/kept/*.trace")]):
         expect_in(suite.run_argv([REPORT, *argv]).out, PAST, " (3 times, 3 processes)\n", "in store_past ")
+    ran = suite.run("--", *past.split(), ASAN_OPTIONS="halt_on_error=1", ASANCOL_REPORT="/nonexistent/report")
+    expect(texts(ran), (1, 1), "asancol-report is not there")
     write_text(f"{folder}/known", "at:heap-buffer-overflow:store_past\n")
     ran = suite.run("--suppressions", f"{folder}/known", "--", *past.split(), **halts)
     expect(texts(ran, -signal.SIGABRT), (0, 0), ran.err)
