@@ -145,7 +145,7 @@ def check_saved(suite: Suite, folder: str, program: str) -> None:
 ERROR = re.compile(r"ERROR: (?:AddressSanitizer|asancol): (?:attempting )?([\w-]+)(?:: (load|store) of (\d+))?")
 ACCESS = re.compile(r"(READ|WRITE) of size (\d+) at")
 # Its size depends on where a zero lies past the buffer.
-ENDS_ANYWHERE = re.compile(r" in (?:__interceptor_)?(?:strlen|strdup|strcat)\b")
+ENDS_ANYWHERE = re.compile(r" in (?:__interceptor_)?(?:strn?len|strdup|strcat)\b")
 FRAME = re.compile(r" +#(\d+) 0x\w+ in (\w+) \S*?(\w+\.c):(\d+)")
 
 
