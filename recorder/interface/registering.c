@@ -2,13 +2,15 @@
 
    By -fsanitize=kernel-address GCC has the globals of a file registered by a constructor that is one of many: it comes
    after those of the file itself. So before any of them runs, the constructors are looked at: what loads the arguments
-   for __asan_register_globals and goes there has the table in its instructions. It registers the table again when its
-   turn comes, which does nothing. Where a constructor is not understood, it is as late as GCC has it. */
+   for __asan_register_globals and goes there has the table in its instructions (processor_code.h). It registers the
+   table again when its turn comes, which does nothing. Where a constructor is not understood, it is as late as GCC has
+   it. */
 #define _GNU_SOURCE
 #include <elf.h>
 #include <stdbool.h>
 #include <string.h>
 
+#include "base/processor_code.h"
 #include "interface/callbacks.h"
 #include "interface/fake_frames.h"
 #include "shadow/globals.h"
@@ -91,74 +93,28 @@ static struct constructors constructors_of_module(void)
 }
 #endif
 
-/* Where the instructions stand that are looked at. */
-struct instructions {
-    const unsigned char *at, *end;
-};
-
-/* Whether an instruction begins so, and then goes past these bytes and a number of 4 bytes, if it is there. */
-static bool take(struct instructions *code, const char *bytes, size_t length, int32_t *number)
+/* Where a call goes. 0: by way of an address that is not in the module. */
+static uintptr_t target_of(const struct constant_call *call)
 {
-    size_t whole = length + (number != NULL ? sizeof *number : 0);
-    if ((size_t)(code->end - code->at) < whole || memcmp(code->at, bytes, length) != 0)
-        return false;
-    if (number != NULL)
-        memcpy(number, code->at + length, sizeof *number);
-    code->at += whole;
-    return true;
-}
-
-#define TAKE(code, bytes, number) take(code, bytes, sizeof bytes - 1, number)
-
-/* The address of a table, in the register of the first argument. */
-static bool take_table(struct instructions *code, uintptr_t *table)
-{
-    int32_t number;
-    if (TAKE(code, "\xbf", &number) || TAKE(code, "\x48\xc7\xc7", &number)) { /* mov $number, %edi or %rdi */
-        *table = (uintptr_t)(intptr_t)number;
-        return true;
-    }
-    if (!TAKE(code, "\x48\x8d\x3d", &number)) { /* lea number(%rip), %rdi */
-        if (!TAKE(code, "\x48\x8d\x05", &number)) /* or %rax */
-            return false;
-        *table = (uintptr_t)code->at + (uintptr_t)(intptr_t)number;
-        return TAKE(code, "\x48\x89\xc7", NULL); /* and mov %rax, %rdi */
-    }
-    *table = (uintptr_t)code->at + (uintptr_t)(intptr_t)number;
-    return true;
-}
-
-/* Where a call or a jump goes. 0: there is none. */
-static uintptr_t take_call(struct instructions *code)
-{
-    int32_t number;
-    bool leaves = TAKE(code, "\x5d", NULL) || TAKE(code, "\xc9", NULL); /* pop %rbp, leave */
-    (void)leaves;
-    if (TAKE(code, "\xe8", &number) || TAKE(code, "\xe9", &number) || TAKE(code, "\x67\xe8", &number))
-        return (uintptr_t)code->at + (uintptr_t)(intptr_t)number;
-    if (!TAKE(code, "\xff\x15", &number) && !TAKE(code, "\xff\x25", &number)) /* by way of an address in the module */
-        return 0;
-    const uintptr_t *slot = (const uintptr_t *)((uintptr_t)code->at + (uintptr_t)(intptr_t)number);
     struct image image = image_of_module();
-    return (uintptr_t)slot >= image.start && (uintptr_t)slot + sizeof *slot <= image.end ? *slot : 0;
+    if (!call->is_by_slot)
+        return call->target;
+    bool is_here = call->target >= image.start && call->target + sizeof(uintptr_t) <= image.end;
+    return is_here ? *(const uintptr_t *)call->target : 0;
 }
 
 /* Registers the table of a constructor that registers one. */
 static void look_at(uintptr_t start)
 {
     enum { SCANNED = 96 };
+    struct constant_call call;
     uintptr_t end = end_of_code(start);
     if (end == 0)
         return;
     end = end - start > SCANNED ? start + SCANNED : end;
-    for (uintptr_t at = start; at < end; at++) {
-        struct instructions code = {(const unsigned char *)at, (const unsigned char *)end};
-        int32_t count;
-        uintptr_t table;
-        if (!TAKE(&code, "\xbe", &count) || !take_table(&code, &table)) /* mov $count, %esi */
-            continue;
-        if (take_call(&code) == (uintptr_t)__asan_register_globals) {
-            __asan_register_globals((const struct global *)table, (uint32_t)count);
+    for (const unsigned char *at = (const unsigned char *)start; processor_find_call(&at, (const void *)end, &call);) {
+        if (target_of(&call) == (uintptr_t)__asan_register_globals) {
+            __asan_register_globals((const struct global *)call.first, call.second);
             return;
         }
     }

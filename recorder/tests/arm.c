@@ -12,6 +12,13 @@ static volatile size_t ten = 10;
 static char global[10];
 static char *volatile kept;
 
+/* It runs before the constructor that GCC has for `global`. */
+static __attribute__((constructor)) void early(int count, char **argv)
+{
+    if (count > 1 && strcmp(argv[1], "early") == 0)
+        ((volatile char *)global)[ten] = 1; /* early */
+}
+
 static void number_of(int value)
 {
     static volatile int number;

@@ -55,6 +55,7 @@ BUGS: Dict[str, Tuple[str, str]] = {
     "bad": ("bad-free", "bad"),
     "stack": ("stack-buffer-overflow", "stack"),
     "variable": ("global-buffer-overflow", "variable"),
+    "early": ("global-buffer-overflow", "early"),
     "scope": ("stack-use-after-scope", "scope"),
     "copies": ("heap-buffer-overflow", "copies"),
     "prints": ("heap-buffer-overflow", "prints"),
@@ -110,7 +111,7 @@ def check_bug(suite: Suite, folder: str, program: str, sanitized: str, word: str
     expect((first_of(BY_ASANCOL, text), ran.returncode), (Said(kind, function, line), 99), text)
     expect(text.count("ERROR: asancol"), 1, text)
     told = told_of(text, "arm.c")
-    first = function if word in ("thread", "handler") else "main"  # a report's stack ends with its handler
+    first = function if word in ("thread", "handler", "early") else "main"  # a report's stack ends with its handler
     expect(told.frames[-1][0] if told else "", first, text)
     ran = run([*QEMU, sanitized, word], folder, ASAN_OPTIONS="detect_leaks=0:detect_stack_use_after_return=1")
     text = ran.stderr.decode()
