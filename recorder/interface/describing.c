@@ -142,7 +142,7 @@ static enum what find_variable(uintptr_t address, struct found *found)
     struct frame frame;
     struct frame_variable variable;
     struct global global;
-    if (is_on_own_stack(address) && frame_around(address, &frame)) {
+    if (is_of_own_stack(address) && frame_around(address, &frame)) {
         if (!frame_nearest(&frame, address, &variable))
             return ON_STACK;
         found->start = variable.start;
@@ -154,7 +154,7 @@ static enum what find_variable(uintptr_t address, struct found *found)
         found->name[strcspn(found->name, ":")] = 0; /* where its line begins */
         return ON_STACK;
     }
-    if (is_on_own_stack(address))
+    if (is_of_own_stack(address))
         return ON_STACK;
     if (!globals_find(address, &global))
         return NOWHERE;

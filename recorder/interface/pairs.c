@@ -30,9 +30,9 @@ static uintptr_t block_of(uintptr_t address)
 /* Where in the shadow the variable on this thread's stack begins that has an address; or 0. */
 static uintptr_t variable_of(uintptr_t address)
 {
-    if (!is_on_own_stack(address))
+    if (!is_of_own_stack(address))
         return 0;
-    const volatile unsigned char *at = shadow_of(address), *low = shadow_of(own_stack.low);
+    const volatile unsigned char *at = shadow_of(address), *low = shadow_of(stack_low());
     while (at >= low && (*at < SHADE_LEFT || *at > SHADE_RIGHT))
         at--;
     return (uintptr_t)(at + 1);

@@ -26,6 +26,19 @@ static inline bool is_on_own_stack(uintptr_t frame)
     return frame >= own_stack.low || (own_stack.may_grow && own_stack.top - frame < MAX_STACK_SIZE);
 }
 
+/* From where on it has frames, also if it has grown. */
+static inline uintptr_t stack_low(void)
+{
+    uintptr_t frame = (uintptr_t)__builtin_frame_address(0);
+    return frame < own_stack.low && is_on_own_stack(frame) ? frame : own_stack.low;
+}
+
+/* Whether an address that may be of anything is on it: other memory may lie where it can grow, as in an emulator. */
+static inline bool is_of_own_stack(uintptr_t address)
+{
+    return address >= stack_low() && address < own_stack.top;
+}
+
 /* Up to where it can be read from this address on; or 0. */
 static inline uintptr_t stack_readable(uintptr_t frame)
 {

@@ -193,6 +193,9 @@ static void good(void)
     }
     while (wait(NULL) > 0)
         ;
+    static char wide[10000];
+    char *volatile low = wide + 1000, *volatile high = wide + 9000;
+    number_of((int)(high - low)); /* both are of one global */
 }
 
 static const struct bug {

@@ -81,7 +81,7 @@ def make_library() -> None:
 def make_program(folder: str, library: Later, level: str) -> None:
     library.made()
     compile_recorded(folder, [f"{TESTS}/arm.c"], f"{folder}/arm{level}", level, "-w",
-                     "-fsanitize-address-use-after-return=runtime")
+                     "-fsanitize-address-use-after-return=runtime", "-fsanitize=pointer-subtract")
 
 
 def make_sanitized(folder: str, level: str) -> None:
@@ -126,7 +126,7 @@ def check_others(suite: Suite, folder: str, program: str) -> None:
     ran = run([RUN, "--", *QEMU, program, "null"], folder, ASANCOL=suite.asancol)
     text = ran.stderr.decode()
     expect((f"arm.c:{line_of('null')}" in text, "store" in text), (True, True), text)
-    ran = run([RUN, "--", *QEMU, program, "good"], folder, ASANCOL=suite.asancol)
+    ran = run([RUN, "--", *QEMU, program, "good"], folder, ASANCOL=suite.asancol, ASANCOL_POINTER_PAIRS="1")
     text = ran.stderr.decode()
     expect((ran.returncode, "no reports; 3 processes" in text, "all complete" in text), (0, True, True), text)
 
