@@ -174,7 +174,8 @@ check-real: asancol recorder run
 	recorder/tests/real.py ./asancol $(SUITES)
 
 # AddressSanitizer's own tests, of compiler-rt and of GCC, recorded: each has the report that it has with the real
-# runtime. The sources come as for check-real. Allow it an hour, and more beside other work.
+# runtime. The sources come as for check-real. Allow it an hour, and more beside other work. With TARGET=aarch64 it runs
+# GCC's tests, and the unit tests, for ARM.
 check-suites: asancol recorder run
 	recorder/tests/suites.py ./asancol
 

@@ -9,6 +9,9 @@ is run as its RUN lines or its dg- directives say, with -fsanitize=address, and 
 execution the first report is compared: its class, its line, and the lines where the block was allocated and freed; or
 the status if there is no report.
 
+With TARGET=aarch64 in the environment, GCC's tests (at -O0 and -O2) and the unit tests are those of programs for ARM
+under qemu-aarch64, by Debian's cross compiler.
+
 The suite `text` looks for what compiler-rt's tests look for with FileCheck, in the text of --log-path.
 
 For each suite it prints how many tests have the same, another class or line, no report, a false one, were left out
@@ -27,12 +30,14 @@ from typing import Iterable, List, Optional, Sequence, Union
 
 sys.path.insert(0, f"{os.path.dirname(os.path.realpath(__file__))}/../..")  # where `testing` is
 
+from arm import CROSS, MACHINE
 from beside import compiler_rt, gcc, text, units
 from beside.compare import ELSEWHERE, FALSE, LEFT_OUT, MISSED, NOT_RUN, OTHER, SAME, Job, Outcome, Verdict
+from beside.execute import IS_ARM
 from beside.fetch import fetch
 from beside.programs import OUT, Kept
 from beside.tables import KNOWN, OUTSIDE, Row
-from support import Failure, compilers
+from support import Compiler, Failure, compilers
 from testing.suite import read, reader_of
 
 SUITES = (compiler_rt, gcc, units, text)
@@ -82,7 +87,7 @@ def print_table(outcomes: Sequence[Outcome]) -> None:
 
 
 def jobs_for(kept: Kept, argv: Sequence[str]) -> List[Job]:
-    there = compilers()
+    there = [Compiler(CROSS, f"{MACHINE}-g++")] if IS_ARM else compilers()
     found = [job for suite in SUITES for job in suite.jobs(kept, there)]
     return [it for it in found if not argv or any(word == it.suite or word in it.name for word in argv)]
 

@@ -23,11 +23,16 @@ TESTS = os.path.dirname(os.path.dirname(os.path.realpath(__file__)))
 if __name__ == "__main__":
     sys.path[:0] = [TESTS, f"{TESTS}/../.."]  # where `support` and `testing` are
 
+from arm import QEMU
 from support import by_sanitizer
 from testing.programs import TOP, environment
 
 RUN = f"{TOP}/run/asancol-run"
 SOURCES = f"{TOP}/recorder/out/suites/sources/"
+
+# With TARGET=aarch64 in the environment, the programs are for ARM, and run under an emulator.
+IS_ARM = os.environ.get("TARGET") == "aarch64"
+EMULATOR: Sequence[str] = QEMU if IS_ARM else ()
 
 # No program may take longer, in seconds. Nothing is measured by it.
 LONGEST = 600
@@ -190,6 +195,7 @@ def execute(way: str, argv: Sequence[str], folder: str, notes: str, stdout: Any 
     """Runs a program in a folder. What it prints as errors is in NOTES/errors then."""
     if not os.path.exists(os.path.join(folder, argv[0])) and not shutil.which(argv[0]):
         return Execution(127, Report(NOT_BUILT, ""))
+    argv = [*EMULATOR, *argv]
     result = f"{notes}/result.jsonl"
     all_settings = environment(**{"ASANCOL": os.environ["ASANCOL"], **settings})
     options = all_settings.get("ASAN_OPTIONS", "")

@@ -6,7 +6,7 @@ import shutil
 import subprocess
 from typing import List
 
-from beside.execute import SOURCES
+from beside.execute import IS_ARM, SOURCES
 from debian import Archive, run_in
 
 ARCHIVE = Archive(os.path.dirname(SOURCES.rstrip("/")))
@@ -34,7 +34,8 @@ def unpack(package: str, folder: str, patterns: List[str]) -> None:
 
 def fetch() -> None:
     """Fetches and unpacks the sources that are not there yet. The archives are kept."""
-    missing = [it for it in PACKAGES if not os.path.isdir(f"{SOURCES}{it}")]
+    needed = [it for it in PACKAGES if not IS_ARM or it == "gcc-12"]
+    missing = [it for it in needed if not os.path.isdir(f"{SOURCES}{it}")]
     if missing:
         ARCHIVE.update()
     for package in missing:

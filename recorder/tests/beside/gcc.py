@@ -7,19 +7,21 @@ import os
 import re
 from typing import Iterator, List, NamedTuple, Sequence
 
-from beside.compare import OTHER, SAME, Job, Verdict, compare_all
-from beside.execute import FINDS_RETURNS, RETURNS, SOURCES
+from arm import CROSS
+from beside.compare import LEFT_OUT, OTHER, SAME, Job, Verdict, compare_all
+from beside.execute import FINDS_RETURNS, IS_ARM, RETURNS, SOURCES
 from beside.programs import Kept, Program, folder_for_a_test, version_of
 from support import Compiler
 
 TREE = f"{SOURCES}gcc-12/gcc/testsuite"
-LEVELS = ("-O0", "-O1", "-O2", "-O3", "-Os")
+# AddressSanitizer takes seconds to start under an emulator.
+LEVELS = ("-O0", "-O2") if IS_ARM else ("-O0", "-O1", "-O2", "-O3", "-Os")
 
 DIRECTIVE = re.compile(r"\{ (dg-[a-z-]+) (.*?)\s*\}\s*(?:\*/)?\s*$", re.M)
 # The words of targets that this one is.
 TARGETS = {"alloca", "clone", "fopenmp", "fpic", "fstack_protector", "lp64", "pthread", "pthread_h", "setrlimit",
-           "sse2_runtime", "swapcontext", "c++11"}
-MACHINE = "x86_64-pc-linux-gnu"
+           "swapcontext", "c++11", *([] if IS_ARM else ["sse2_runtime"])}
+MACHINE = "aarch64-unknown-linux-gnu" if IS_ARM else "x86_64-pc-linux-gnu"
 
 
 class Directive(NamedTuple):
@@ -137,6 +139,8 @@ def check_compiled(compiler: Compiler, test: Test) -> List[Verdict]:
 
 def check(kept: Kept, compiler: Compiler, test: Test) -> List[Verdict]:
     """What comes of a test at each of its levels."""
+    if not test.levels():
+        return [Verdict(LEFT_OUT, "for other levels")]
     if not test.is_run:
         return check_compiled(compiler, test)
     verdicts, options = [], test.options
@@ -153,5 +157,5 @@ def check(kept: Kept, compiler: Compiler, test: Test) -> List[Verdict]:
 
 def jobs(kept: Kept, compilers: Sequence[Compiler]) -> Iterator[Job]:
     for compiler in compilers:
-        if compiler.name == "gcc":
+        if compiler.name in ("gcc", CROSS):
             yield from (Job("gcc", it.name, functools.partial(check, kept, compiler, it)) for it in tests())

@@ -8,7 +8,7 @@ import re
 from typing import Iterator, List, Sequence
 
 from beside.compare import Job, Verdict, compare_all
-from beside.execute import SOURCES, Execution, execute
+from beside.execute import IS_ARM, SOURCES, Execution, execute
 from beside.programs import OUT, Kept, Program, folder_for_a_test, version_of
 from support import Compiler, Failure
 from testing.suite import Later
@@ -17,8 +17,9 @@ TREE = f"{SOURCES}gcc-12/gcc/testsuite/g++.dg/asan"
 # Those of asan_test.C.
 DEFINED = ["ASAN_UAR=0", "ASAN_HAS_EXCEPTIONS=1", "ASAN_HAS_BLACKLIST=0", "ASAN_NEEDS_SEGV=1",
            "ASAN_AVOID_EXPENSIVE_TESTS=1", "SANITIZER_USE_DEJAGNU_GTEST=1", "__NO_INLINE__"]
-FLAGS = ["-O2", "-g", "-w", "-std=c++11", "-fno-builtin", "-msse2", *(f"-D{it}" for it in DEFINED),
-         f"{TREE}/asan_test.C", f"{TREE}/asan_globals_test-wrapper.cc", "-lpthread", "-ldl"]
+FLAGS = ["-O2", "-g", "-w", "-std=c++11", "-fno-builtin", *([] if IS_ARM else ["-msse2"]),
+         *(f"-D{it}" for it in DEFINED), f"{TREE}/asan_test.C", f"{TREE}/asan_globals_test-wrapper.cc", "-lpthread",
+         "-ldl"]
 
 
 def build(program: Program, way: str, folder: str) -> None:
