@@ -147,7 +147,8 @@ def check(kept: Kept, compiler: Compiler, test: Test) -> List[Verdict]:
     for level in test.levels():
         program = Program(compiler, test.is_cpp, ["-g", "-w", level, *test.flags(), test.source])
         with folder_for_a_test() as folder:
-            question = [version_of(compiler), *program.argv, options]
+            language = ["C++"] if test.is_cpp and test.source.endswith(".c") else []
+            question = [version_of(compiler), *program.argv, options, *language]
             real = kept.ask(question, lambda: program.build_and_execute("real", folder, ASAN_OPTIONS=options))
             recorded = program._replace(argv=[*([FINDS_RETURNS] if RETURNS in options else []), *program.argv])
             record = functools.partial(recorded.build_and_execute, "recorded", folder, ASAN_OPTIONS=options)
