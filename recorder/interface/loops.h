@@ -1,4 +1,4 @@
-/* What the copies of loops without checks (loops/versions.cpp) ask for.
+/* What the copies of loops (loops/versions.cpp) ask for.
 
    Called: by compiled code, in any thread, also in a signal handler. Lock: none: the shadow is only read. The names and
    numbers also by the plugin for Clang and by the wrapper, which are other programs. */
@@ -9,6 +9,7 @@
 
 #define GOOD_LOOP_NAME "__asan_good_loop"
 #define GOOD_ROUNDS_NAME "__asan_good_rounds"
+#define REST_ACCESS_NAME "__asan_rest_access"
 
 /* How many instructions a loop may run by one look at the shadow, in which it does not see that a signal handler, or
    another thread, has freed what it accesses: some microseconds. */
@@ -19,5 +20,9 @@
 #define STRIP_UNIT UINT64_C(64)
 /* In its place: the loop runs in one strip, or with its checks. */
 #define WHOLE UINT64_C(0)
+
+/* Of an access that is checked by a call: a store; and one of which the first and the last byte are looked at. */
+#define REST_IS_STORE 1u
+#define REST_HAS_ENDS 2u
 
 #endif

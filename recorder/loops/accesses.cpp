@@ -31,19 +31,12 @@ const uint64_t MOST_COPIED = 256;
 const unsigned MOST_INSTRUCTIONS = 1000;
 
 /* What code takes, on average over image and compression libraries: an access with its check, any other instruction,
-   one of a fast loop, which may become vectors and a scalar rest, and a call of a test. */
+   one of a fast loop, which may become vectors and a scalar rest, a call of a test, and of a check. */
 const uint64_t BYTES_OF_CHECK = 90;
 const uint64_t BYTES_OF_INSTRUCTION = 5;
 const uint64_t BYTES_OF_FAST = 10;
 const uint64_t BYTES_OF_TEST = 50;
-
-/* A load or a store that AddressSanitizer's pass gives a check. */
-bool has_check(Instruction &instruction)
-{
-    const Value *pointer = getLoadStorePointerOperand(&instruction);
-    return pointer != nullptr && pointer->getType()->getPointerAddressSpace() == 0 && !pointer->isSwiftError()
-           && !instruction.hasMetadata("nosanitize") && !isa<ScalableVectorType>(getLoadStoreType(&instruction));
-}
+const uint64_t BYTES_OF_CALL = 25;
 
 /* Whether a call changes no shadow, waits for nobody, and takes next to no time. What copies memory has a check of its
    own, in each copy of the loop. */
@@ -109,6 +102,13 @@ bool is_same(const range &one, const range &other)
     return one.step == other.step && one.inner == other.inner && one.inner_step == other.inner_step;
 }
 } // namespace
+
+bool has_check(Instruction &instruction)
+{
+    const Value *pointer = getLoadStorePointerOperand(&instruction);
+    return pointer != nullptr && pointer->getType()->getPointerAddressSpace() == 0 && !pointer->isSwiftError()
+           && !instruction.hasMetadata("nosanitize") && !isa<ScalableVectorType>(getLoadStoreType(&instruction));
+}
 
 /* Whether it can be computed before the loop. */
 bool access_reader::is_known(const SCEV *value, Loop *loop) const
@@ -273,7 +273,7 @@ uint64_t added_code(const tested_loop &it)
     for (const inner_loop &inner : it.inner)
         in_copy += inner.instructions;
     uint64_t fast = in_copy * BYTES_OF_FAST + (it.checks - it.known) * BYTES_OF_CHECK;
-    uint64_t rest = in_copy * BYTES_OF_INSTRUCTION + it.checks * BYTES_OF_CHECK + (tests + 1) * BYTES_OF_TEST;
+    uint64_t rest = in_copy * BYTES_OF_INSTRUCTION + it.checks * BYTES_OF_CALL + (tests + 1) * BYTES_OF_TEST;
     return fast + (tests + 1) * BYTES_OF_TEST + (it.has_one_strip ? 0 : rest);
 }
 

@@ -41,6 +41,9 @@ struct tested_loop {
     bool has_one_strip;
 };
 
+/* Whether it is a load or a store that AddressSanitizer's pass gives a check. */
+bool has_check(llvm::Instruction &instruction);
+
 /* About how many bytes of code a function has once its accesses are checked. */
 uint64_t code_of(llvm::Function &function);
 

@@ -9,10 +9,12 @@
        checked -> loop -> left -> exit
        rest -> loop -> left of rest -> exit
    Both the fast loop and the rest are copies. The loop itself begins as it did, and is compiled as it would be alone,
-   so that its reports are the same. The rest is only for what another thread, or a signal handler, makes bad meanwhile.
+   so that its reports are the same. The rest is only for what another thread, or a signal handler, makes bad meanwhile:
+   its checks are calls, which take less code.
    If there is to be one strip, `first` leads to `good`, and `done` to the exit: the test says no to a longer loop. */
 #include "loops/versions.hpp"
 
+#include <llvm/ADT/SmallPtrSet.h>
 #include <llvm/Analysis/ScalarEvolutionExpressions.h>
 #include <llvm/IR/IRBuilder.h>
 #include <llvm/IR/MDBuilder.h>
@@ -99,6 +101,8 @@ class versioning
     Value *moved_by(IRBuilder<> &builder, PHINode &variable, Value *rounds);
     void join_variable(PHINode &variable);
     void join_exit();
+    void check_by_call(Instruction &access);
+    void check_rest(const std::function<void(Instruction &)> &mark);
     void note_strips(Loop *parent);
     void note_loops();
 };
@@ -359,6 +363,45 @@ void versioning::join_exit()
     }
 }
 
+/* Before an access. AddressSanitizer's pass looks at two bytes of one of an odd size, or that may be unaligned. */
+void versioning::check_by_call(Instruction &access)
+{
+    IRBuilder<> builder(&access);
+    Type *pointer = byte->getPointerTo(), *half = Type::getInt32Ty(context);
+    FunctionCallee function = of.function.getParent()->getOrInsertFunction(REST_ACCESS_NAME, Type::getVoidTy(context),
+                                                                           pointer, half, half);
+    if (auto *declared = dyn_cast<Function>(function.getCallee())) {
+        declared->setDoesNotThrow();
+        declared->setOnlyAccessesInaccessibleMemory();
+        declared->addFnAttr(Attribute::WillReturn);
+        declared->addFnAttr(Attribute::Cold);
+        declared->addParamAttr(0, Attribute::NoCapture);
+    }
+    const DataLayout &layout = of.function.getParent()->getDataLayout();
+    uint64_t size = layout.getTypeStoreSize(getLoadStoreType(&access)).getFixedValue();
+    uint64_t alignment = getLoadStoreAlignment(&access).value();
+    bool is_usual = isPowerOf2_64(size) && size <= 16 && (alignment >= 8 || alignment >= size);
+    unsigned how = (isa<StoreInst>(access) ? REST_IS_STORE : 0) | (is_usual ? 0 : REST_HAS_ENDS);
+    Value *at = builder.CreateBitCast(getLoadStorePointerOperand(&access), pointer);
+    builder.CreateCall(function, {at, ConstantInt::get(half, size), ConstantInt::get(half, how)});
+}
+
+/* As AddressSanitizer's pass, once for each address in a block. */
+void versioning::check_rest(const std::function<void(Instruction &)> &mark)
+{
+    for (BasicBlock *block : it.loop->blocks()) {
+        SmallPtrSet<const Value *, 8> checked_there;
+        for (Instruction &access : *block) {
+            auto *copy = dyn_cast_or_null<Instruction>(static_cast<Value *>(copies_of_rest.lookup(&access)));
+            if (copy == nullptr || !has_check(access))
+                continue;
+            if (checked_there.insert(getLoadStorePointerOperand(&access)).second)
+                check_by_call(*copy);
+            mark(*copy);
+        }
+    }
+}
+
 void versioning::note_strips(Loop *parent)
 {
     Loop *strips = of.loops.AllocateLoop();
@@ -415,6 +458,8 @@ void versioning::make(const std::function<void(Instruction &)> &mark)
         join_variable(variable);
     join_exit();
     RecursivelyDeleteTriviallyDeadInstructions(old_end);
+    if (!it.has_one_strip)
+        check_rest(mark);
     for (const range &each : it.ranges)
         for (Instruction *access : each.accesses)
             if (auto *copy = dyn_cast_or_null<Instruction>(static_cast<Value *>(copies.lookup(access))))

@@ -1,6 +1,6 @@
 """Loops that Clang's plugin tests as a whole (loops/loops.c, and drawn ones of loop_forms.py): what a run prints and
 reports is the same without it, also where they go past an end, before a start or over poison. With the plugin copies
-without checks have run. Those of attacks.c are meant to lose a bad access."""
+without checks have run. Those of attacks.c are meant to lose a bad access, and those of rest.c turn bad amid."""
 
 import collections
 import glob
@@ -130,6 +130,20 @@ def check_attacks(suite: Suite, folder: str, compiler: Compiler, flags: Sequence
         expect(len(found) != 0, True, f"{of}: bad accesses")
 
 
+def check_rest(suite: Suite, folder: str, compiler: Compiler, flags: Sequence[str]) -> None:
+    """What a signal handler, or another thread, makes bad while a loop runs is reported from the next strip on: as
+    often as by checks that find it bad from the start."""
+    ways: Tuple[Tuple[str, Sequence[str]], ...] = (("with", [*flags, ALL_LOOPS]), ("without", ["-O1"]))
+    for program, words in ways:
+        compiler.c(folder, [f"{TESTS}/loops/rest.c"], f"{folder}/{program}", "-w", COUNTED[1], *words)
+    runs: Tuple[Tuple[str, List[str]], ...] = (("with", []), ("without", ["early"]))
+    printed, printed_early = (found_by(folder, suite, f"{folder}/{name}", words)[0] for name, words in runs)
+    expect(printed.splitlines(), printed_early.splitlines(), "what it prints")
+    found, wanted = (collections.Counter(verdicts(folder, suite, f"{folder}/{name}", words)) for name, words in runs)
+    expect(sum(wanted.values()) > 100, True, "how many verdicts")
+    expect((sorted(wanted - found), sorted(found - wanted)), ([], []), "lost, and added")
+
+
 def check_options(_suite: Suite, folder: str, compiler: Compiler) -> None:
     """It is given where it helps, and only to a version that it was made for."""
     def is_given(*words: str, file: bytes = b"libasancol_loops.so") -> bool:
@@ -245,5 +259,7 @@ def tests(suite: Suite, compiler: Compiler) -> None:
     for flags in levels:
         suite.test(f"{compiler} loops same {' '.join(flags)}", check_same, compiler, flags)
     suite.test(f"{compiler} loops limited", check_same, compiler, ["-O2"], LOOPS)
+    for flags in (["-O1"], ["-O2"], ["-O3", "-march=haswell"]):
+        suite.test(f"{compiler} loops rest {' '.join(flags)}", check_rest, compiler, flags)
     for flags in (["-O1"], ["-O2"], ["-O3", "-march=haswell"], ["-O2", "-ffast-math", "-fopenmp-simd"]):
         suite.test(f"{compiler} loops attacks {' '.join(flags)}", check_attacks, compiler, flags)
