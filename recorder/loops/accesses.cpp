@@ -36,7 +36,7 @@ const uint64_t BYTES_OF_CHECK = 90;
 const uint64_t BYTES_OF_INSTRUCTION = 5;
 const uint64_t BYTES_OF_FAST = 10;
 const uint64_t BYTES_OF_TEST = 50;
-const uint64_t BYTES_OF_CALL = 45;
+const uint64_t BYTES_OF_CALL = 25;
 
 /* Whether a call changes no shadow, waits for nobody, and takes next to no time. What copies memory has a check of its
    own, in each copy of the loop. */

@@ -98,7 +98,7 @@ class budget
     const bool has_limit;
 
   private:
-    static const uint64_t LEAST = 2000, PERCENT = 3;
+    static const uint64_t LEAST = 2000, PERCENT = 2;
     const Module *module = nullptr;
     uint64_t left = 0;
 };
