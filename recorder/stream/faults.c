@@ -43,12 +43,24 @@ uint32_t fault_put_stack(call_site of)
     return list_put_stack(list_newest(), of);
 }
 
+/* Of the allocator's memory, whose shadow is there as a whole. */
+static void copy_shadow(uint64_t start, unsigned char to[SIDE_SHADOW])
+{
+    volatile const uint64_t *from = (volatile const uint64_t *)shadow_of(start);
+    for (size_t i = 0; i < SIDE_SHADOW / sizeof *from; i++) {
+        uint64_t shades = from[i];
+        __builtin_memcpy(to + i * sizeof shades, &shades, sizeof shades);
+    }
+}
+
 /* What the shadow has round a byte, as rows that begin at multiples of their length. */
 static void keep_shadow(uint64_t bad, struct side_fault *fault)
 {
     uint64_t row = bad / (GRANULE * SIDE_ROW) * (GRANULE * SIDE_ROW), before = GRANULE * SIDE_ROW * SIDE_ROWS_BESIDE;
     fault->shadow_start = row > before ? row - before : 0;
-    if (!memory_read((uintptr_t)shadow_of(fault->shadow_start), fault->shadow, sizeof fault->shadow))
+    if (is_in_arena(fault->shadow_start) && is_in_arena(fault->shadow_start + sizeof fault->shadow * GRANULE))
+        copy_shadow(fault->shadow_start, fault->shadow);
+    else if (!memory_read((uintptr_t)shadow_of(fault->shadow_start), fault->shadow, sizeof fault->shadow))
         fault->shadow_start = 0;
 }
 
