@@ -59,6 +59,7 @@ class Program(NamedTuple):
     has_library: bool = False  # made of the same source without asancol-cc, and without a sanitizer
     quarantine_mb: int = 256
     says_rest: bool = False  # prints how many MB it has at its end
+    recovers: bool = False  # goes on at each fault, which AddressSanitizer reports once for each place
     flags: Sequence[str] = ()  # Clang's alone
 
 
@@ -78,6 +79,8 @@ PROGRAMS = [
     Program("calls", "speed.c", (["calls", "50000000"],)),
     Program("copies", "speed.c", (["copies", "20000000"],)),
     Program("strings", "speed.c", (["strings", "5000000"],)),
+    Program("faults", "speed.c", (["faults", "100000"],), recovers=True),
+    Program("same-fault", "speed.c", (["same-fault", "100000"],), recovers=True),
     Program("leaks", "speed.c", (["live", "1000000"],), has_leaks=True),
     Program("live", "speed.c", (["live", "1000000"],)),
     Program("text", "speed.c", (["text", "400000"],)),
@@ -138,7 +141,10 @@ def make(compiler: Compiler, program: Program, way: str, folder: str) -> str:
     flags = ["-O2", ALIGNED[compiler.name], *SANITIZED.get(way, []), *program.flags]
     if program.finds_returns and is_recorded:
         flags.append("-fsanitize-address-use-after-return=runtime")
-    name = program.name if program.is_real or program.finds_returns else program.source
+    if program.recovers and way in SANITIZED:
+        flags.append("-fsanitize-recover=address")
+    has_own_build = program.is_real or program.finds_returns or program.recovers
+    name = program.name if has_own_build else program.source
     base = f"{folder}/{name}.{compiler}.{'recorded' if is_recorded else way}"
     path = f"{base}/src/{program.source}" if program.is_real else base
     if not os.path.exists(path):
@@ -154,6 +160,8 @@ def settings_for(path: str, program: Program, way: str, folder: str, asancol: st
     asked = {"detect_leaks": program.has_leaks, "detect_stack_use_after_return": program.finds_returns,
              "quarantine_size_mb": program.quarantine_mb}
     options = ":".join(f"{name}={int(value)}" for name, value in asked.items())
+    if program.recovers and way in SANITIZED:
+        options += f":halt_on_error=0:log_path={folder}/run.log"
     settings = {"ASAN_OPTIONS": f"{options}:exitcode=0", "LD_LIBRARY_PATH": os.path.dirname(path), "ASANCOL": asancol}
     if way in ("full", "lean"):
         settings.update(ASANCOL_TRACE=f"{folder}/%p.trace", ASANCOL_WHERE="1", ASANCOL_FULL=str(int(way == "full")),
@@ -176,7 +184,7 @@ def measure_run(argv: Sequence[str], settings: Dict[str, str], folder: str) -> T
         said.seek(0)
         text = said.read()
     for name in os.listdir(folder):
-        if name.endswith((".trace", ".where", ".log")):
+        if name.endswith((".trace", ".where")) or name.startswith("run.log"):
             os.unlink(f"{folder}/{name}")
     if used.status:
         raise Failure(f"{' '.join(argv)}: status {used.status}")

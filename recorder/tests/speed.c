@@ -150,6 +150,32 @@ static long copies(long count)
     return sum;
 }
 
+/* A bad load past each of many blocks, and one of it once it is freed. */
+static long faults(long count)
+{
+    long sum = 0;
+    for (long i = 0; i < count; i += 2) {
+        char *volatile block = malloc(24);
+        if (block == NULL)
+            return 0;
+        sum += block[24];
+        free(block);
+        sum += block[0];
+    }
+    return sum;
+}
+
+/* The same of one block that stays. */
+static long same_fault(long count)
+{
+    char *volatile block = malloc(24);
+    long sum = 0;
+    for (long i = 0; block != NULL && i < count; i++)
+        sum += block[24];
+    free(block);
+    return sum;
+}
+
 static long strings(long count)
 {
     char *volatile text = strdup("a string that is as long as many are in programs");
@@ -362,11 +388,27 @@ int main(int count, char **argv)
     static const struct {
         const char *name;
         long (*run)(long);
-    } programs[] = {{"array", array},    {"tree", tree},         {"sort", sort},         {"blocks", blocks},
-                    {"frames", frames},  {"calls", calls},       {"copies", copies},     {"strings", strings},
-                    {"40-kb", forty_kb}, {"100-kb", hundred_kb}, {"sawtooth", sawtooth}, {"live", live},
-                    {"text", text},      {"matrix", matrix},     {"hash", hash},         {"few-blocks", few_blocks},
-                    {"starts", starts},  {"forks", forks},       {"execs", execs}};
+    } programs[] = {{"array", array},
+                    {"tree", tree},
+                    {"sort", sort},
+                    {"blocks", blocks},
+                    {"frames", frames},
+                    {"calls", calls},
+                    {"copies", copies},
+                    {"strings", strings},
+                    {"40-kb", forty_kb},
+                    {"100-kb", hundred_kb},
+                    {"sawtooth", sawtooth},
+                    {"live", live},
+                    {"text", text},
+                    {"matrix", matrix},
+                    {"hash", hash},
+                    {"few-blocks", few_blocks},
+                    {"starts", starts},
+                    {"forks", forks},
+                    {"execs", execs},
+                    {"faults", faults},
+                    {"same-fault", same_fault}};
     for (size_t i = 0; count == 3 && i < sizeof programs / sizeof *programs; i++) {
         if (strcmp(argv[1], programs[i].name) != 0)
             continue;
