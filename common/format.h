@@ -116,9 +116,10 @@ enum finding_kind {
     FINDING_DOUBLE_ENDED,  /* the same for one with two ends */
     FINDING_POINTERS,      /* two pointers into different objects are compared, or one is subtracted from the other */
     FINDING_NO_MEMORY,     /* there is none for a block */
-    FINDING_ODR            /* two modules have defined one global */
+    FINDING_ODR,           /* two modules have defined one global */
+    FINDING_SHADOW         /* a block's shadow was overwritten */
 };
-enum { FINDING_LAST = FINDING_ODR };
+enum { FINDING_LAST = FINDING_SHADOW };
 
 enum { SIDE_ARGV = 4000, SIDE_BUILD_COUNT = 112, SIDE_ID = 23, SIDE_FAULTS = 1 << 16, SIDE_THREADS = 1 << 12 };
 enum { SIDE_NAME = 120, SIDE_CALL = 32, SIDE_THREAD_NAME = 16, SIDE_CHILDREN = 32 };
@@ -256,7 +257,8 @@ struct side_found {
     uint64_t after; /* how many events there were before it came up first */
     uint64_t other; /* of an overlap, where the other range begins; of an overflow, what the size is to be taken
                        times; of another alignment, that of the new; of a container, what lies outside it; of two
-                       pointers, the second */
+                       pointers, the second; of a shadow byte, its value, and 256 times the value that the block has
+                       given it */
 };
 
 /* The circumstances of an access or a free that was bad by the recorder's shadow; or a finding. */

@@ -117,6 +117,8 @@ static const char *class_of_finding(const struct told *told)
         return "out-of-memory";
     case FINDING_ODR:
         return "odr-violation";
+    case FINDING_SHADOW:
+        return "bad-shadow";
     case FINDING_POINTERS:
         return "invalid-pointer-pair";
     case FINDING_CONTAINER:

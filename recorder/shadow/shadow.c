@@ -14,9 +14,13 @@
 
 #define ARENA_START ((uint64_t)ARENA_NUMBER << ARENA_SHIFT)
 enum { FILE_COUNT = ((uint64_t)1 << ARENA_SHIFT) / SHADOW_OF_FILE, BITS = 32 };
+/* Pages further apart than all of these share a bit. */
+enum { POISON_COUNT = 1 << 16 };
 
 /* A bit for each part: a file is its shadow. Written with the allocator's lock. */
 static AS_TABLE _Atomic uint32_t of_file[FILE_COUNT / BITS];
+/* A bit for each page: the process has poisoned or unpoisoned some of it. */
+static AS_TABLE _Atomic uint32_t has_poison[POISON_COUNT / BITS];
 
 bool shadow_is_of_file(uint64_t address)
 {
@@ -33,6 +37,23 @@ void shadow_note_file(uint64_t address, bool is_of_file)
         atomic_fetch_or_explicit(&of_file[number / BITS], bit, memory_order_relaxed);
     else
         atomic_fetch_and_explicit(&of_file[number / BITS], ~bit, memory_order_relaxed);
+}
+
+bool shadow_may_be_poisoned(uint64_t address)
+{
+    uint64_t number = address / PAGE % POISON_COUNT;
+    return (atomic_load_explicit(&has_poison[number / BITS], memory_order_relaxed) >> number % BITS & 1) != 0;
+}
+
+void shadow_note_poison(uint64_t address, uint64_t size)
+{
+    uint64_t pages = size != 0 ? (address + size - 1) / PAGE - address / PAGE + 1 : 0;
+    for (uint64_t i = 0; i < pages && i < POISON_COUNT; i++) {
+        uint64_t number = (address / PAGE + i) % POISON_COUNT;
+        if (!shadow_may_be_poisoned(number * PAGE))
+            atomic_fetch_or_explicit(&has_poison[number / BITS], UINT32_C(1) << number % BITS, memory_order_relaxed);
+    }
+    atomic_thread_fence(memory_order_release);
 }
 
 #endif

@@ -14,7 +14,7 @@
 
    Called: by compiled code, which reads and writes it, and by any file, in any thread, also in a handler. No lock: who
    writes owns the memory, and who reads may see the byte before or after. shadow_note_file by shadow/unused.c alone,
-   with the allocator's lock. */
+   with the allocator's lock; shadow_note_poison by stream/record.c, and shadow_may_be_poisoned by heap/differing.c. */
 #ifndef ASANCOL_SHADOW_H
 #define ASANCOL_SHADOW_H
 
@@ -131,6 +131,11 @@ static inline bool is_in_arena(uint64_t address)
 #define SHADOW_OF_FILE ((uint64_t)1 << 25)
 bool shadow_is_of_file(uint64_t address);
 void shadow_note_file(uint64_t address, bool is_of_file);
+
+/* The process poisons or unpoisons memory of the allocator's: before its shadow is written, also in part. */
+void shadow_note_poison(uint64_t address, uint64_t size);
+/* Whether it may have done so near an address, at any time. */
+bool shadow_may_be_poisoned(uint64_t address);
 
 static inline volatile unsigned char *shadow_of(uint64_t address)
 {

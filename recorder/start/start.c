@@ -10,6 +10,7 @@
 #include "libc/library.h"
 #include "heap/arena.h"
 #include "heap/book.h"
+#include "heap/differing.h"
 #include "heap/heap.h"
 #include "interface/interface.h"
 #include "interface/reports.h"
@@ -158,6 +159,7 @@ const struct above above = {
     .poisons_in_heap = heap_is_poisoned,
     .state_access = book_state_access,
     .state_free = book_state_free,
+    .find_difference = heap_find_difference,
     .find_nearest = arena_find_nearest,
     .start = start_if_ready,
     .say_child = recorder_say_child,

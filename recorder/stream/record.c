@@ -105,6 +105,8 @@ void record_bad_call(enum code code, uint64_t address, uint64_t size, uint64_t g
    allocator's memory the stream hears of it when an access comes (stated.c), and in lean recording everywhere. */
 static void record_piece(enum code code, unsigned char shade, uint64_t address, uint64_t size)
 {
+    if (is_in_arena(address))
+        shadow_note_poison(address, size);
     if (code == CODE_POISON) {
         if (is_in_arena(address))
             above.poisons_in_heap();

@@ -118,6 +118,12 @@ enum stating { STATING_DONE, STATING_FRAME, STATING_NOT_NEEDED, STATING_AGAIN };
    may be in the middle of a change, and no other thread is; or another one may be. */
 enum holding { HEAP_LOCKED, HEAP_INTERRUPTED, HEAP_AT_LOCK };
 
+/* The first byte of a granule in a block's span whose shadow byte is another one than the block leaves there. */
+struct difference {
+    uint64_t granule; /* 0: there is none */
+    unsigned char shade, left;
+};
+
 struct nearest;
 
 /* What the stream needs of what stands on it: the allocator, and the process. */
@@ -136,6 +142,8 @@ struct above {
        is locked. */
     enum stating (*state_access)(uint64_t address, unsigned width, enum holding holding);
     enum stating (*state_free)(uint64_t address);
+    /* Where the shadow of the block at an address differs from its notes (heap/differing.h). The heap is locked. */
+    struct difference (*find_difference)(uint64_t address);
     /* Starts the recorder. False: not here, or not yet. */
     bool (*start)(void);
     /* Says that a child is not recorded, which no fork has announced. */

@@ -6,6 +6,7 @@
 #include "base/disturbance.h"
 #include "shadow/shadow.h"
 #include "stream/faults.h"
+#include "stream/findings.h"
 #include "stream/holes.h"
 #include "stream/places.h"
 #include "stream/regions.h"
@@ -111,7 +112,7 @@ static enum holding holding_now(void)
    the allocator locked: so no other thread changes or states a block between the two. No handler comes, which could
    leave by a jump and leave the lock taken. If nothing is bad any more, nothing is recorded. */
 static bool record_stated(uint32_t entry, struct moment moment, unsigned code_and_width, uint64_t address,
-                          unsigned char **at)
+                          struct difference *difference, unsigned char **at)
 {
     struct disturbance before;
     bool is_free = code_and_width == CODE_FREE;
@@ -122,6 +123,8 @@ static bool record_stated(uint32_t entry, struct moment moment, unsigned code_an
                                    : above.state_access(address, code_and_width >> 8, holding);
     bool is_done = stating != STATING_AGAIN;
     *at = NULL;
+    if (holding == HEAP_LOCKED && stating != STATING_NOT_NEEDED && is_in_arena(address))
+        *difference = above.find_difference(address);
     if (stating == STATING_DONE || stating == STATING_FRAME)
         is_done = record_at(entry, moment, code_and_width, address, holding != HEAP_AT_LOCK, at);
     if (stating == STATING_FRAME)
@@ -129,6 +132,20 @@ static bool record_stated(uint32_t entry, struct moment moment, unsigned code_an
     above.unlock_heap();
     undisturbed_end(&before);
     return is_done;
+}
+
+/* The shadow of the block that a bad access or free has met was overwritten, which may be why it is bad, or why others
+   are not seen. */
+static void note_difference(const struct difference *difference, const struct access *access)
+{
+    uint64_t bytes = difference->shade | (uint64_t)difference->left << 8;
+    if (difference->granule != 0)
+        finding_note_call(&(struct wrong_call){.kind = FINDING_SHADOW,
+                                               .caller = access->caller,
+                                               .call = access->call,
+                                               .start = difference->granule,
+                                               .size = GRANULE,
+                                               .other = bytes});
 }
 
 /* Before something bad is looked at: the unsent part of a segment is lost with its connection. */
@@ -156,6 +173,7 @@ void record_watched_access(unsigned code_and_width, uint64_t address, uintptr_t 
 {
     unsigned width = code_and_width >> 8;
     struct access itself;
+    struct difference difference = {0};
     unsigned char *at;
     bool is_bad, is_done, is_of_block = is_lean() && is_in_arena(address);
     bool is_in_frame = !is_of_block && is_frame_in_block(address, width);
@@ -177,11 +195,13 @@ void record_watched_access(unsigned code_and_width, uint64_t address, uintptr_t 
         }
         state_around(address, width, is_in_frame);
         uint32_t entry = is_bad ? fault_of(now.window, whole, width, address) : 0;
-        is_done = is_of_block ? record_stated(entry, now, code_and_width, address, &at)
+        is_done = is_of_block ? record_stated(entry, now, code_and_width, address, &difference, &at)
                               : record_at(entry, now, code_and_width, address, false, &at);
         if (is_bad)
             fault_end(now.window);
     } while (!is_done);
+    if (is_bad)
+        note_difference(&difference, whole);
     if (at == NULL)
         return;
     if (is_bad)
@@ -200,6 +220,7 @@ void record_bad_free(uint64_t address, uintptr_t caller, const char *call)
         record_too_late(true);
         return;
     }
+    struct difference difference = {0};
     unsigned char *at;
     bool is_noted, is_done;
     stay_connected(true);
@@ -209,11 +230,12 @@ void record_bad_free(uint64_t address, uintptr_t caller, const char *call)
         if (is_noted)
             fault_begin(now.window);
         uint32_t entry = is_noted ? fault_of(now.window, &access, 0, address) : 0;
-        is_done = is_lean() ? record_stated(entry, now, CODE_FREE, address, &at)
+        is_done = is_lean() ? record_stated(entry, now, CODE_FREE, address, &difference, &at)
                             : record_at(entry, now, CODE_FREE, address, true, &at);
         if (is_noted)
             fault_end(now.window);
     } while (!is_done);
+    note_difference(&difference, &access);
     if (at != NULL)
         stream_look_at_clock(true);
     if (is_telling())

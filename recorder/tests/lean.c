@@ -1,8 +1,10 @@
 /* What lean recording has to state in the middle of something: a number of rounds and the name are the arguments. */
 #define _GNU_SOURCE
 #include <pthread.h>
+#include <sanitizer/asan_interface.h>
 #include <setjmp.h>
 #include <signal.h>
+#include <stdint.h>
 #include <stdio.h>
 #include <stdlib.h>
 #include <string.h>
@@ -345,6 +347,58 @@ static void large(int rounds)
     }
 }
 
+/* The shadow. */
+
+enum { SIZE = 84, PLACES = 7 };
+
+void __asan_get_shadow_mapping(size_t *scale, size_t *offset);
+
+__attribute__((no_sanitize_address)) static void overwrite(char *at, unsigned char shade)
+{
+    size_t scale, offset;
+    __asan_get_shadow_mapping(&scale, &offset);
+    *(volatile unsigned char *)(((uintptr_t)at >> scale) + offset) = shade;
+}
+
+/* Overwrites the shadow of one place of a block: in a redzone, of its first and last bytes, and of those that are met;
+   and again once it is freed. Then goes wrong there, elsewhere in the block, or by a free. */
+static void overwritten(int rounds)
+{
+    static const int at[PLACES] = {-32, -1, 0, SIZE - 1, SIZE + 4, SIZE + 32, 16};
+    for (int i = 0; i < rounds * PLACES; i++) {
+        char *live = hide(malloc(SIZE)), *freed = hide(malloc(SIZE)), *twice = hide(malloc(SIZE));
+        int place = at[i % PLACES];
+        overwrite(live + place, 0xfd);
+        store(live + (place == 16 ? 16 : SIZE));
+        free(freed);
+        overwrite(freed + place, 3);
+        store(freed + 20);
+        free(twice);
+        overwrite(twice + place, 0xf1);
+        free(hide(twice));
+    }
+}
+
+/* The process poisons and unpoisons the same itself, or says what its containers have. */
+static void poisoned(int rounds)
+{
+    for (int i = 0; i < rounds; i++) {
+        char *live = hide(malloc(SIZE)), *freed = hide(malloc(SIZE)), *array = hide(malloc(SIZE));
+        free(freed);
+        __asan_poison_memory_region(live, 20);
+        __asan_unpoison_memory_region(live - 8, 8);
+        __asan_unpoison_memory_region(live + SIZE, 4);
+        __asan_unpoison_memory_region(freed, 19);
+        __sanitizer_annotate_contiguous_container(array, array + SIZE, array + SIZE, array + 13);
+        store(live + SIZE + 4);
+        store(live + 4);
+        store(freed + 20);
+        store(array + 13);
+        store(array + SIZE);
+        free(hide(freed));
+    }
+}
+
 static const struct {
     const char *name;
     void (*run)(int rounds);
@@ -361,6 +415,8 @@ static const struct {
                 {"limited", limited},
                 {"large", large},
                 {"joined", joined},
+                {"overwritten", overwritten},
+                {"poisoned", poisoned},
                 {"threaded", threaded}};
 
 int main(int count, char **argv)

@@ -1,7 +1,9 @@
 """Tests of lean recording: good events leave no record, and faults are those of a full recording."""
 
-from typing import Dict, Sequence
+import glob
+from typing import Dict, List, Sequence, Tuple
 
+from asancol_report.by_recorder import FORMS
 import hub
 from drawn import expect_same, recorded
 from inline import make
@@ -150,6 +152,35 @@ def check_joined(suite: Suite, folder: str, program: str) -> None:
     expect(kinds_of(segments_of(suite, f"{folder}/t.trace")), {}, "faults")
 
 
+def shadows_found(suite: Suite, folder: str, program: str, words: str) -> Tuple[Dict[int, int], List[str]]:
+    """How often each shadow byte was found in the place of another one, and the words of each finding."""
+    record(suite, folder, [program, *words.split()], ONE, ASANCOL_FULL="0", ASANCOL_WHERE="1")
+    found: Dict[int, int] = {}
+    texts = []
+    for path in sorted(glob.glob(f"{folder}/t*.trace"), key=lambda it: ("segment" in it, it)):
+        for it in side_of(path).findings():
+            expect(FORMS[it.kind].class_of(it), "bad-shadow", "class")
+            found[it.other % 256] = found.get(it.other % 256, 0) + it.count
+            texts.append(FORMS[it.kind].words(it).replace(f"0x{it.start:x}", f"byte {it.start - it.block}"))
+    return found, texts
+
+
+def check_overwritten(suite: Suite, folder: str, program: str) -> None:
+    """At a bad access or free of a block, another shadow byte than the block's is found in its redzones, its first and
+    last bytes and those that are met; at a free the bytes that are met are the first ones."""
+    found, texts = shadows_found(suite, folder, program, "overwritten 3")
+    expect(found, {0xfd: 21, 0x03: 21, 0xf1: 18}, "shadow bytes")
+    expect(texts[0], "the shadow byte of byte -32 is fd, and should be fa", "the first one")
+    for kind in ("fd, and should be 04", "fd, and should be 00", "03, and should be fd", "f1, and should be fd"):
+        expect([it for it in texts if it.endswith(kind)] != [], True, f"{kind}: {texts}")
+
+
+def check_poisoned(suite: Suite, folder: str, program: str) -> None:
+    """None is found where the process has poisoned or unpoisoned something itself, and in stacks that are blocks."""
+    for words in ("poisoned 20", "stacks 20", "turns 50"):
+        expect(shadows_found(suite, folder, program, words), ({}, []), words)
+
+
 def check_hub(suite: Suite, folder: str, program: str) -> None:
     """A block in the way begins another connection of the process. Each fault is there once."""
     peers, said = hub.run_under(folder, [program, "turns", "500"], ASANCOL_QUARANTINE="200", ASANCOL_LIMIT="100")
@@ -208,7 +239,8 @@ def tests(suite: Suite, compiler: Compiler) -> None:
                                  ("turns", check_turns, lean), ("vforks", check_vforks, lean),
                                  ("large", check_large, lean),
                                  ("used again", check_used_again, lean), ("limited", check_limited, lean),
-                                 ("joined", check_joined, lean),
+                                 ("joined", check_joined, lean), ("overwritten", check_overwritten, lean),
+                                 ("poisoned", check_poisoned, lean),
                                  ("stacks", check_stacks, lean), ("hub", check_hub, lean)):
         suite.test(f"{compiler} lean {name}", check, program)
     suite.test(f"{compiler} lean every access", check_every, compiler)

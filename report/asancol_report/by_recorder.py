@@ -6,14 +6,15 @@ from __future__ import annotations
 from typing import Callable, Dict, NamedTuple, Optional, Tuple
 
 from .class_names import (
-    ALIGNMENTS, CLASSES, CONTAINER, DOUBLE_ENDED, INDIRECT_LEAK, LEAK, MISMATCH, NEGATIVE_SIZE, NO_MEMORY, ODR,
-    POINTER_PAIR, SIZE_MISMATCH, SIZES_ASKED, TOO_BIG,
+    ALIGNMENTS, BAD_SHADOW, CLASSES, CONTAINER, DOUBLE_ENDED, INDIRECT_LEAK, LEAK, MISMATCH, NEGATIVE_SIZE, NO_MEMORY,
+    ODR, POINTER_PAIR, SIZE_MISMATCH, SIZES_ASKED, TOO_BIG,
 )
 from .leaks import leak_text, Leaks
 from .side import (
     Fault, FINDING_ALIGNMENT, FINDING_CONTAINER, FINDING_DOUBLE_ENDED, FINDING_FAMILY, FINDING_INDIRECT_LEAK,
     FINDING_LAST, FINDING_LEAK, FINDING_NEGATIVE_SIZE, FINDING_NO_MEMORY, FINDING_NOT_OWNED, FINDING_ODR,
-    FINDING_OTHER_ALIGNMENT, FINDING_OVERFLOW, FINDING_OVERLAP, FINDING_POINTERS, FINDING_SIZE, FINDING_TOO_BIG,
+    FINDING_OTHER_ALIGNMENT, FINDING_OVERFLOW, FINDING_OVERLAP, FINDING_POINTERS, FINDING_SHADOW, FINDING_SIZE,
+    FINDING_TOO_BIG,
 )
 from .words import plural
 
@@ -110,6 +111,11 @@ def definition(fault: Fault) -> Optional[Tuple[str, str, int]]:
     return (name, file, int(line)) if file and line.isdecimal() else (name, place, 0)
 
 
+def shadow(fault: Fault) -> str:
+    left, byte = divmod(fault.other, 256)
+    return f"the shadow byte of 0x{fault.start:x} is {byte:02x}, and should be {left:02x}"
+
+
 def signed(size: int) -> int:
     return size - SIZE_END if size >= NEGATIVE else size
 
@@ -135,6 +141,7 @@ FORMS: Dict[int, Form] = {
     FINDING_POINTERS: Form(lambda _: POINTER_PAIR, CALL, lambda it: f"0x{it.start:x} and 0x{it.other:x}",
                            has_size=False),
     FINDING_ODR: Form(lambda _: ODR, CALL, two_definitions, no_address, False),
+    FINDING_SHADOW: Form(lambda _: BAD_SHADOW, CALL, shadow, has_size=False),
     FINDING_NOT_OWNED: Form(not_owned, CALL, lambda it: (
         f"{it.call} of a pointer to no block"), has_size=False),
     FINDING_OTHER_ALIGNMENT: Form(lambda _: SIZE_MISMATCH, "free", other_alignment, lambda it: it.block, False),

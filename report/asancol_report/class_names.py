@@ -38,6 +38,7 @@ SIZES_ASKED = ("malloc_usable_size", "__sanitizer_get_allocated_size")
 CONTAINER = "bad-__sanitizer_annotate_contiguous_container"
 DOUBLE_ENDED = "bad-__sanitizer_annotate_double_ended_contiguous_container"
 POINTER_PAIR, ODR, INIT_ORDER = "invalid-pointer-pair", "odr-violation", "initialization-order-fiasco"
+BAD_SHADOW = "bad-shadow"
 CLASSES = {
     **OF_ASANCOL,
     "stack-buffer-underflow": "Access before the first variable of a frame",
@@ -57,6 +58,7 @@ CLASSES = {
     DOUBLE_ENDED: "Annotation of a double-ended container outside its memory",
     POINTER_PAIR: "Comparison or subtraction of pointers into different objects",
     ODR: "Global variable defined by two modules",
+    BAD_SHADOW: "Heap block whose shadow was overwritten",
     INIT_ORDER: "Access to a global of another file before its initialisation",
     **{f"bad-{call}": "Size requested for an address that is not the start of a block" for call in SIZES_ASKED},
     **{f"{call}-param-overlap": f"Call of {call} with overlapping ranges" for call in OVERLAPPING},

@@ -38,6 +38,8 @@ ADVICE = (
      "same one, although they may expect another size or value."),
     (r"init.*-order", "Find the initialiser in the first stack, and make the global that it uses a static variable "
      "of a function: the order in which files are initialised is undefined."),
+    (r"bad-shadow", "Find the code that wrote to the checker's own memory: through a wild pointer, or in a stack that "
+     "is larger than its block. Other errors may be missing or wrong."),
     (r"usable_size|allocated_size", "Find where the pointer of this call comes from: it has to be one that malloc "
      "returned and that is not freed yet."),
     (r"stack-overflow", "Look for a function that comes again and again in the stack, and for large variables on the "

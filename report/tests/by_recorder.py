@@ -12,7 +12,7 @@ from asancol_report import side as layout
 from asancol_report.class_names import CLASSES
 
 LEAK, INDIRECT, FAMILY, SIZE, OVERLAP, NEGATIVE, PRODUCT, ALIGNMENT, TOO_BIG, NOT_OWNED, OTHER_ALIGNMENT = range(1, 12)
-CONTAINER, DOUBLE_ENDED, POINTERS, NO_MEMORY, ODR = range(12, 17)
+CONTAINER, DOUBLE_ENDED, POINTERS, NO_MEMORY, ODR, SHADOW = range(12, 18)
 CLEAN = END.replace("reports 1", "reports 0")
 MINUS_FIVE = (1 << 64) - 5
 
@@ -47,6 +47,7 @@ def one_of_each(places: Dict[str, int]) -> List[bytes]:
         finding(POINTERS, here, given=(0x2000, 0), other=0x3000, after=11),
         finding(NO_MEMORY, here, given=(0, 1 << 39), after=11),
         finding(ODR, here, 0x4000, 40, name="shared one.c:7", given=(0x4000, 80), after=11),
+        finding(SHADOW, here, 0x2000, 16, made, name="malloc", given=(0x2010, 8), other=0xFA00, after=11),
     ]
 
 
@@ -72,6 +73,7 @@ TITLES = (
     "invalid-pointer-pair: 0x2000 and 0x3000 (by the recorder)",
     "out-of-memory: request for 549755813888 bytes, and there is no memory (by the recorder)",
     "odr-violation: global 'shared' of 80 bytes at one.c:7, and of 40 bytes at an unknown place (by the recorder)",
+    "bad-shadow: the shadow byte of 0x2010 is 00, and should be fa (by the recorder)",
     "detected memory leaks (by the recorder)",
     "detected memory leaks (by the recorder)",
 )
@@ -86,7 +88,7 @@ def each_kind(folder: str) -> None:
     expect(ran.status, 1, ran.err)
     titles = re.findall(r"^==7==ERROR: asancol: (.*)$", ran.out, re.M)
     expect(titles, list(TITLES), "titles, in the order of what came before")
-    expect_in(ran.out, "asancol: 20 reports at 19 places (20 by the recorder); 1 process, 9 events; all complete\n",
+    expect_in(ran.out, "asancol: 21 reports at 20 places (21 by the recorder); 1 process, 9 events; all complete\n",
               "0x2000 is byte 0 of a block of 40 bytes\n  allocated at\n", "in make ",
               "0x2004 is byte 4 of a block of 16", "0x2000 is byte 0 of a freed block of 16 bytes",
               "\nDirect leak of 24 byte(s) in 3 object(s) allocated from:\n    #0 ",

@@ -27,6 +27,7 @@
 #include "environment/hub_word.h"
 #include "stream/ending.h"
 #include "stream/faults.h"
+#include "stream/findings.h"
 #include "stream/locked.h"
 #include "stream/opening.h"
 #include "stream/record.h"
@@ -180,6 +181,7 @@ void side_forget(void) {}
 void side_note_snapshot(uint64_t events) { (void)events; }
 void side_note_left_good(void) {}
 void side_note_finding_lost(void) {}
+void finding_note_call(const struct wrong_call *wrong) { (void)wrong; }
 void side_note_skipped(uint64_t what) { (void)what; }
 void side_note_stated(void) {}
 uint64_t side_length(void) { return 0; }
@@ -304,6 +306,7 @@ void shadow_poison(uint64_t address, uint64_t size, unsigned char code)
     }
 }
 void shadow_unpoison(uint64_t address, uint64_t size) { shadow_poison(address, size, 0); }
+void shadow_note_poison(uint64_t address, uint64_t size) { (void)address, (void)size; }
 uint64_t shadow_first_bad(uint64_t address, uint64_t size)
 {
     uint64_t at = address;

@@ -106,6 +106,11 @@ static enum stating state_free(uint64_t address)
     (void)address;
     return STATING_DONE;
 }
+static struct difference find_difference(uint64_t address)
+{
+    (void)address;
+    return (struct difference){0};
+}
 static void list_unchecked(char *list, const char *maps) { list[0] = maps[0] == 0 ? 0 : list[0]; }
 static uint64_t unchecked_state(void)
 {
@@ -121,6 +126,7 @@ const struct above above = {
     .poisons_in_heap = do_nothing,
     .state_access = state_access,
     .state_free = state_free,
+    .find_difference = find_difference,
     .start = is_not,
     .say_child = do_nothing,
     .list_unchecked = list_unchecked,
