@@ -1,5 +1,6 @@
 /* What lean recording has to state in the middle of something: a number of rounds and the name are the arguments. */
 #define _GNU_SOURCE
+#include <alloca.h>
 #include <pthread.h>
 #include <sanitizer/asan_interface.h>
 #include <setjmp.h>
@@ -11,6 +12,7 @@
 #include <sys/resource.h>
 #include <sys/time.h>
 #include <sys/wait.h>
+#include <ucontext.h>
 #include <unistd.h>
 
 static void *hide(void *pointer)
@@ -399,6 +401,115 @@ static void poisoned(int rounds)
     }
 }
 
+/* Coroutines whose stacks are blocks: what each does next is drawn, and most of it is wrong. */
+
+enum { FIBERS = 4, FIBER_STACK = 40000 };
+static struct fiber {
+    ucontext_t context;
+    char *stack;
+} fibers[FIBERS];
+static ucontext_t outside;
+static struct fiber *now;
+
+static unsigned drawn(unsigned below)
+{
+    static uint64_t state = 88172645463325252u;
+    state ^= state << 13;
+    state ^= state >> 7;
+    state ^= state << 17;
+    return (unsigned)(state % below);
+}
+
+static void past_array(void)
+{
+    char local[21];
+    store(hide(local));
+    store((char *)hide(local) + 21 + drawn(8));
+}
+
+static void before_array(void)
+{
+    char local[21];
+    store((char *)hide(local) - 1 - drawn(8));
+}
+
+static void past_alloca(void)
+{
+    unsigned size = 9 + drawn(30);
+    char *local = hide(alloca(size));
+    store(local + size - 1);
+    store(local + size + drawn(8));
+}
+
+static void after_scope(void)
+{
+    char *kept;
+    {
+        char inner[32];
+        kept = hide(inner);
+    }
+    store(kept + drawn(32));
+}
+
+static void beside_stack(void)
+{
+    unsigned far = drawn(32);
+    store(drawn(2) == 0 ? now->stack - 1 - far : now->stack + FIBER_STACK + far);
+}
+
+static void beside_block(void)
+{
+    unsigned size = drawn(50), far = drawn(24);
+    char *one = hide(malloc(size));
+    store(one + size + far);
+    free(one);
+    store(one + drawn(size + 1));
+    free(hide(one));
+}
+
+static void poisoned_part(void)
+{
+    __asan_poison_memory_region(now->stack + 8, 100);
+    store(now->stack + 8 + drawn(100));
+    __asan_unpoison_memory_region(now->stack + 8, 100);
+    store(now->stack + drawn(200));
+}
+
+static void go_wrong_in_fiber(void)
+{
+    static void (*const mistakes[])(void) = {past_array,   before_array, past_alloca,  after_scope,
+                                             beside_stack, beside_block, poisoned_part};
+    for (;;) {
+        mistakes[drawn(sizeof mistakes / sizeof *mistakes)]();
+        swapcontext(&now->context, &outside);
+    }
+}
+
+/* Its old stack is used once more. */
+static void make_fiber(struct fiber *it)
+{
+    char *old = it->stack;
+    free(old);
+    if (old != NULL)
+        store(old + drawn(FIBER_STACK));
+    it->stack = hide(malloc(FIBER_STACK));
+    getcontext(&it->context);
+    it->context.uc_stack.ss_sp = it->stack;
+    it->context.uc_stack.ss_size = FIBER_STACK;
+    makecontext(&it->context, go_wrong_in_fiber, 0);
+}
+
+static void drawn_fibers(int rounds)
+{
+    for (int i = 0; i < rounds; i++) {
+        now = &fibers[drawn(FIBERS)];
+        if (now->stack == NULL || drawn(20) == 0)
+            make_fiber(now);
+        store(now->stack + drawn(FIBER_STACK));
+        swapcontext(&outside, &now->context);
+    }
+}
+
 static const struct {
     const char *name;
     void (*run)(int rounds);
@@ -417,6 +528,7 @@ static const struct {
                 {"joined", joined},
                 {"overwritten", overwritten},
                 {"poisoned", poisoned},
+                {"drawn_fibers", drawn_fibers},
                 {"threaded", threaded}};
 
 int main(int count, char **argv)

@@ -95,6 +95,16 @@ def check_stacks(suite: Suite, folder: str, program: str) -> None:
         expect(kinds, {"store stack-buffer-overflow": 30, "store heap-buffer-overflow": 60}, f"with {limit}")
 
 
+def check_fibers(suite: Suite, folder: str, program: str) -> None:
+    """Drawn mistakes of coroutines whose stacks are blocks, in their frames, beside their stacks and in others that
+    were freed, are the faults of a full recording."""
+    argv = [program, "drawn_fibers", "600"]
+    wanted = kinds_of(record(suite, folder, argv, ONE))
+    expect((len(wanted), min(wanted.values()) > 40), (5, True), f"faults of a full recording: {wanted}")
+    for limit in (ONE, 3000, 50):
+        expect(kinds_of(record(suite, folder, argv, limit, ASANCOL_FULL="0")), wanted, f"with {limit}")
+
+
 def kinds_of_turns(suite: Suite, folder: str, program: str, full: str, quarantine: str) -> Dict[str, int]:
     settings = {"ASANCOL_TRACE": "t.trace", "ASANCOL_QUARANTINE": quarantine, "ASANCOL_FULL": full}
     run(["sh", "-c", f"rm -f t.*; {program} turns 500"], folder, **settings)
@@ -177,7 +187,7 @@ def check_overwritten(suite: Suite, folder: str, program: str) -> None:
 
 def check_poisoned(suite: Suite, folder: str, program: str) -> None:
     """None is found where the process has poisoned or unpoisoned something itself, and in stacks that are blocks."""
-    for words in ("poisoned 20", "stacks 20", "turns 50"):
+    for words in ("poisoned 20", "stacks 20", "drawn_fibers 200", "turns 50"):
         expect(shadows_found(suite, folder, program, words), ({}, []), words)
 
 
@@ -241,6 +251,7 @@ def tests(suite: Suite, compiler: Compiler) -> None:
                                  ("used again", check_used_again, lean), ("limited", check_limited, lean),
                                  ("joined", check_joined, lean), ("overwritten", check_overwritten, lean),
                                  ("poisoned", check_poisoned, lean),
-                                 ("stacks", check_stacks, lean), ("hub", check_hub, lean)):
+                                 ("stacks", check_stacks, lean), ("fibers", check_fibers, lean),
+                                 ("hub", check_hub, lean)):
         suite.test(f"{compiler} lean {name}", check, program)
     suite.test(f"{compiler} lean every access", check_every, compiler)
