@@ -19,6 +19,7 @@
 #include "base/system.h"
 #include "libc/library.h"
 #include "heap/arena.h"
+#include "environment/asan_options.h"
 #include "environment/asking.h"
 #include "environment/startup.h"
 #include "environment/stale_trace.h"
@@ -136,6 +137,7 @@ static int read_clock(int clock, struct timespec *now) { return clock_gettime(cl
 static const char is_alone = 0;
 struct library library = {.clock_gettime = read_clock, .__libc_single_threaded = &is_alone};
 bool has_other_threads(void) { return true; }
+bool asan_options_check_call(const char *name) { return name != NULL; }
 struct code_range own_code;
 struct startup startup;
 int self_process(void)
