@@ -39,32 +39,32 @@ demo:
 	@$(SHOW) $(EXAMPLE) $(REDZONES)
 endif
 
-SHOW = if $(MAKE) -q asancol > /dev/null 2>&1; then program=./asancol; else program=-; fi; tests/demo.py $$program
+SHOW = if $(MAKE) -q asancol > /dev/null 2>&1; then program=./asancol; else program=-; fi; tools/demo.py $$program
 
 # Tests of all parts, in seven minutes on four processors from a fresh clone. It proves nothing, and says at the end
 # what it left out. With CHECKED=1, after `make check`, it leaves out what that has run.
 test:
-	tests/quick.py $(if $(CHECKED),--checked)
+	tools/quick.py $(if $(CHECKED),--checked)
 
 # Proves everything from nothing, tries the mutants, and runs the tests and the program. What has passed is then
 # the program here, so that nothing is proved again for it.
 check:
-	tests/gate.py
+	tools/gate.py
 	@cp crates/asancol/out/asancol asancol
 
 # The mutants, several in one check: the prover has to refuse each. What it refused before is not tried again.
 check-mutants:
-	tests/planted.py
-	tests/mutants.py
+	tools/planted.py
+	tools/mutants.py
 
 # The same bodies, each tried by itself by the toolchain: two hours of one processor.
 check-mutants-alone:
-	tests/mutants_alone.py
+	tools/mutants_alone.py
 
 # Looks over C, shell scripts, Python and the tree with the linters that are there, within two minutes. Of the layout of
 # C it asks on the lines that differ from where the branch left main, or from BASE=..
 lint:
-	tests/lint.py $(if $(BASE),--base $(BASE))
+	tools/lint.py $(if $(BASE),--base $(BASE))
 
 # Many traces at once, again and again, for as many minutes: each text has to be that of its trace
 # checked alone.

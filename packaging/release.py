@@ -43,7 +43,7 @@ def expect_ready(version: str, section: str) -> None:
         fail(f"CHANGELOG.md has no section for {version}: give Unreleased its number")
     if git("tag", "--list", f"v{version}"):
         fail(f"the tag v{version} is there: a release is made once")
-    if subprocess.run([sys.executable, f"{TOP}/tests/lint_tree.py"], cwd=TOP, check=False).returncode:
+    if subprocess.run([sys.executable, f"{TOP}/tools/lint_tree.py"], cwd=TOP, check=False).returncode:
         fail("mend what lint_tree.py has found")
 
 

@@ -19,8 +19,11 @@ import sys
 import tempfile
 from typing import List, NamedTuple, Tuple
 
+sys.path.insert(0, f"{os.path.dirname(os.path.realpath(__file__))}/..")  # where `testing` is
+
+from testing import TOP
+
 import rooms
-from files import TOP
 
 OPTIONS = ["-std=c11", "-O2", "-DPROVED", f"-iquote{TOP}"]
 

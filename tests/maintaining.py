@@ -39,16 +39,16 @@ def linters_find_what_is_planted(_: str, folder: str) -> None:
     """The layout is asked for on changed lines alone, and a tool that is not there is no failure."""
     path = clone(folder)
     tools = ("clang-format", "shellcheck", "pyflakes")
-    ran = run_in(path, sys.executable, "tests/lint.py", "--base", "HEAD", *tools)
+    ran = run_in(path, sys.executable, "tools/lint.py", "--base", "HEAD", *tools)
     expect((ran.status, ran.out.splitlines()[-1]), (0, "3 passed, 0 failed, 0 skipped"), ran.out)
     with open(f"{path}/run/say.h", "a", encoding="utf-8") as file:
         file.write(BADLY_LAID_OUT)
     write_text(f"{path}/options/planted.py", UNUSED)
     write_text(f"{path}/packaging/planted", UNQUOTED)
-    ran = run_in(path, sys.executable, "tests/lint.py", "--base", "HEAD", *tools)
+    ran = run_in(path, sys.executable, "tools/lint.py", "--base", "HEAD", *tools)
     expect((ran.status, ran.out.splitlines()[-1]), (1, "0 passed, 3 failed, 0 skipped"), ran.out)
     expect_in(ran.out, "+int planted(void);", "packaging/planted:2:", "options/planted.py:1:", "pyflakes: 1 found")
-    ran = run_in(path, sys.executable, "tests/lint.py", *tools, PATH=f"{folder}/none")
+    ran = run_in(path, sys.executable, "tools/lint.py", *tools, PATH=f"{folder}/none")
     none = "".join(f"not there: {it}\n" for it in tools)
     expect((ran.status, ran.out), (0, f"{none}0 passed, 0 failed, 3 skipped\n"), ran.err)
 

@@ -93,10 +93,10 @@ def archive_is_enough(program: str, folder: str) -> None:
     files = sorted(must(["find", ".", "-type", "f", "-printf", "%P\\n"], top).splitlines())
     must(["make", "-s", "-j4", "recorder", "run"], top, **no_git)
     line = "import files; print('\\n'.join(files.files_of_tree()))"
-    seen = must([sys.executable, "-c", line], f"{top}/tests", **no_git)
+    seen = must([sys.executable, "-c", line], f"{top}/tools", **no_git)
     expect(seen.splitlines(), [it for it in files if it != MADE], "the files of the tree after a build")
     if shutil.which("rt"):
-        expect(must([f"{top}/tests/lint_tree.py"], top, **no_git), "lint: nothing found\n", "lint")
+        expect(must([f"{top}/tools/lint_tree.py"], top, **no_git), "lint: nothing found\n", "lint")
     shutil.copy(program, f"{top}/asancol")
     os.utime(f"{top}/asancol")
     must(["make", "-q", "asancol"], top, **no_git)

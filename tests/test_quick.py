@@ -157,7 +157,7 @@ run(make, argparse.Namespace(words=[], which=Which.ALL, list=False, junit=None))
 def copy_of_tree(folder: str) -> str:
     """Copies what tells of the crates, and what the fake is tested with."""
     left = shutil.ignore_patterns("out", "proofs")
-    for name in ("tests", "testing", "common", "examples/golden", "crates"):
+    for name in ("tests", "testing", "tools", "common", "examples/golden", "crates"):
         shutil.copytree(f"{TOP}/{name}", f"{folder}/{name}", ignore=left)
     for name in ("crates.txt", "Makefile", "install.mk"):
         shutil.copy(f"{TOP}/{name}", folder)
@@ -165,7 +165,7 @@ def copy_of_tree(folder: str) -> str:
 
 
 def run_in(folder: str, *argv: str, **settings: str) -> "subprocess.CompletedProcess[str]":
-    argv = (sys.executable, f"{folder}/tests/quick.py", *argv)
+    argv = (sys.executable, f"{folder}/tools/quick.py", *argv)
     own = environment("MAKE", **settings)
     return call(argv, env=own, stdout=subprocess.PIPE, text=True, timeout=LONGEST)
 

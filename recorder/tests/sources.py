@@ -24,7 +24,7 @@ CONSTANT = set("_GLOBAL_OFFSET_TABLE_ _DYNAMIC __ehdr_start main asancol_checks 
 SAFE = {"__libc_single_threaded", "__libc_stack_end", "environment", "_dl_find_object", "clock_gettime", "sigaction"}
 
 # What these call besides: at the start of the process and its end, for its threads and libraries, or for a call of the
-# program's. The head of each says which of its functions a handler may call (tests/heads.py).
+# program's. The head of each says which of its functions a handler may call (tools/heads.py).
 BESIDES = {
     "environment/asan_options.o": {"__lsan_default_options", "__lsan_default_suppressions"},
     "environment/settings.o": {"LLVMFuzzerTestOneInput"},

@@ -5,13 +5,12 @@ import os
 import pty
 import subprocess
 
-import golden
 import long_trace
 from program import (
     CUT, PAST_THE_END, PATIENCE, SOUND, Served, closing, cut, lines_of_each, opened_by, past_the_end,
     prepared, put, same, same_lines, sound,
 )
-from testing import test
+from testing import golden, test
 from testing.traces import HEADER, HEADER_2, closed, free, load, malloc, poison
 
 # Read here, while the tree can be read: the cases run as nobody.

@@ -1,8 +1,8 @@
 #!/usr/bin/env python3
 """Checks a trace as `asancol` does, by a program that is not proved.
 
-usage: tests/unproved.py < TRACE
-       tests/unproved.py --build FILE      leaves the program, and checks nothing
+usage: tools/unproved.py < TRACE
+       tools/unproved.py --build FILE      leaves the program, and checks nothing
 
 `rt try` compiles the program once, with checks in the place of its proof, and runs it. If nothing
 was built before, that takes a minute or two. `make demo` calls this if ./asancol is not there. The built program has

@@ -1,7 +1,7 @@
 #!/usr/bin/env python3
 """Looks over the tree, in seconds, for what no proof and no test sees.
 
-usage: tests/lint_tree.py
+usage: tools/lint_tree.py
 
 - No line of a crate's proofs has more than 120 columns, and none of its code and definitions more
   than 100. Imports in code and definitions may be longer.
@@ -19,7 +19,7 @@ usage: tests/lint_tree.py
 - Each function, clause, file, test and target of make that a page names is there (`pages.py`).
 - No two tests have one name: of the rows, of the crates, and of `runs.py` and `failures.py`.
 - The golden rows that MODEL.md shows, the stored traces and the lemmas of `Examples` are what
-  the rows of their names say (`golden.py`).
+  the rows of their names say (`testing/golden.py`).
 - What a crate is for stands on its own page as in the tables of ARCHITECTURE.md and crates/README.md.
 - The files generated from the tables in `options` are as `make options` would write them.
 - The program says the release that VERSION says: it can't read the file, since it is proved.
@@ -38,13 +38,13 @@ from typing import Iterator, List, Tuple
 sys.path.insert(0, f"{os.path.dirname(os.path.realpath(__file__))}/..")  # where `testing` is
 
 import bodies
-import golden
 import heads
 import names
 import pages
 import waits
 import words
 from files import TOP, files_of_tree
+from testing import golden
 
 Finding = Tuple[str, int, str]
 

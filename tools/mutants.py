@@ -1,7 +1,7 @@
 #!/usr/bin/env python3
 """Tries the mutants of crates, several in one check.
 
-usage: tests/mutants.py [--lanes N] [--as-proved] [--anew] [CRATE..]
+usage: tools/mutants.py [--lanes N] [--as-proved] [--anew] [CRATE..]
 
 A mutant is made by an edit, `crates/CRATE/mutants/NAME.edit` (`edits.py`). First what a crate's
 mutants rest on is checked in its base (`rooms.py`), over the libraries of those below it. Then come

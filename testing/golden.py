@@ -5,8 +5,8 @@ import os
 import re
 from typing import Dict, Iterator, List, NamedTuple, Tuple
 
-from files import TOP
-from testing.traces import HEADER, HEADERS, Event, events_of, is_row, trace_of
+from .programs import TOP
+from .traces import HEADER, HEADERS, Event, events_of, is_row, trace_of
 
 FOLDER = "examples/golden"
 

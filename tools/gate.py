@@ -1,8 +1,8 @@
 #!/usr/bin/env python3
 """Passes everything, or what a change touches.
 
-usage: tests/gate.py                      the gate
-       tests/gate.py --changed [BASE]     minutes after a change of one crate
+usage: tools/gate.py                      the gate
+       tools/gate.py --changed [BASE]     minutes after a change of one crate
 
 The gate first runs `lint_tree.py`, in seconds, and ends there if that finds something. Then comes
 `rt ci`: it proves each crate from nothing and runs the tests. It builds the program with two
@@ -50,8 +50,8 @@ STEPS = [
 
 # What runs beside them. The mutants are tried over the libraries that `rt ci` proves.
 BESIDE = [
-    (costs.MUTANTS, [sys.executable, "tests/planted.py"]),
-    (costs.MUTANTS, [sys.executable, "tests/mutants.py", "--as-proved"]),
+    (costs.MUTANTS, [sys.executable, "tools/planted.py"]),
+    (costs.MUTANTS, [sys.executable, "tools/mutants.py", "--as-proved"]),
 ]
 
 COUNTS = re.compile(r"(\d+) passed, (\d+) failed")
@@ -155,7 +155,7 @@ def show(text: str) -> None:
 
 def is_clean() -> bool:
     """Returns whether lint_tree.py finds nothing. It prints what it finds."""
-    return subprocess.run([sys.executable, f"{TOP}/tests/lint_tree.py"], cwd=TOP).returncode == 0
+    return subprocess.run([sys.executable, f"{TOP}/tools/lint_tree.py"], cwd=TOP).returncode == 0
 
 
 def run_all(meter: costs.Meter) -> Tuple[int, int]:
@@ -208,7 +208,7 @@ def git(*argv: str) -> str:
     """Returns what a git command prints, and ends this one where git fails."""
     ran = subprocess.run(["git", *argv], cwd=TOP, stdout=subprocess.PIPE, text=True)
     if ran.returncode:
-        sys.exit(f"tests/gate.py: git {argv[0]} failed")
+        sys.exit(f"tools/gate.py: git {argv[0]} failed")
     return ran.stdout
 
 
@@ -277,7 +277,7 @@ def steps_for(changed: Set[str], listed: Dict[str, List[str]]) -> List[Tuple[str
     steps = [(f"crates/{it}", ["rt", "check"]) for it in above]
     edited = [it for it in above if it in changed and os.path.isdir(f"{TOP}/crates/{it}/mutants")]
     if edited:
-        steps.append((".", [sys.executable, "tests/mutants.py", *edited]))
+        steps.append((".", [sys.executable, "tools/mutants.py", *edited]))
     steps += [(f"crates/{it}", ["rt", "test"]) for it in above if has_tests(it)]
     if any(" staticlib:" in lines_listed()[it] for it in above):
         steps.append((".", [sys.executable, "tests/decisions.py"]))

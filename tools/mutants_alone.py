@@ -1,7 +1,7 @@
 #!/usr/bin/env python3
 """Has the toolchain try each mutant by itself.
 
-usage: tests/mutants_alone.py [--anew] [CRATE..]
+usage: tools/mutants_alone.py [--anew] [CRATE..]
 
 It is the cross-check of `mutants.py`, which tries several in one check by code of this repository:
 here `rt must-fail` reads the same edits and reports refusals. It takes edits from folders named

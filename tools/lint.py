@@ -1,14 +1,14 @@
 #!/usr/bin/env python3
 """Looks over C, shell scripts and Python with the linters that are there, and over the tree with lint_tree.py.
 
-usage: tests/lint.py [--base COMMIT] [TOOL..]
+usage: tools/lint.py [--base COMMIT] [TOOL..]
 
 With names of tools, only these look. A line for each says what it found; one that is not there is said, and is no
 failure. The last line is 'N passed, N failed, N skipped', and the status is 1 if one failed.
 
 - clang-format: the lines of C that differ from COMMIT, which is where the branch left main if none is given, are laid
   out as .clang-format says.
-- cppcheck: no fault that it knows, except what tests/cppcheck.txt lists.
+- cppcheck: no fault that it knows, except what tools/cppcheck.txt lists.
 - shellcheck: all shell scripts.
 - pyflakes: all Python. ruff is taken for it if that is there.
 - mypy: the types of all Python, as pyproject.toml asks.
@@ -30,10 +30,10 @@ from files import TOP, files_of_tree, is_repository
 STARTED_BY_SHELL = "#!/bin/sh\n''':'\n"
 SHELLS = ("#!/bin/sh\n", "#!/usr/bin/env bash\n")
 # The scripts of such a folder, and of those below it, import each other by their names alone.
-FOLDERS = ("recorder/tests", "run/tests", "report/tests", "tests", "options", "packaging", "examples/farms/project",
-           "listen", "report", "testing")
+FOLDERS = ("recorder/tests", "run/tests", "report/tests", "tests", "tools", "options", "packaging",
+           "examples/farms/project", "listen", "report", "testing")
 CPPCHECK = ["--std=c11", "--enable=warning,performance,portability", "--quiet", "--inline-suppr", "--max-configs=1",
-            "--suppressions-list=tests/cppcheck.txt", "--template={file}:{line}: {message} [{id}]",
+            "--suppressions-list=tools/cppcheck.txt", "--template={file}:{line}: {message} [{id}]",
             "-Irecorder", "-Irun", "-I."]
 
 
@@ -108,15 +108,15 @@ def by_mypy(program: str, sources: List[Source], base: str) -> List[str]:
     for source in sources:
         if source.is_python:
             groups.setdefault(folder_of(source.path), []).append(source.path)
-    found = [f"{it}: it is in no folder that tests/lint.py knows" for it in groups.pop("", [])]
+    found = [f"{it}: it is in no folder that tools/lint.py knows" for it in groups.pop("", [])]
     for folder, files in groups.items():
         argv = [program, "--no-error-summary", f"--cache-dir=.mypy_cache/{folder}", *files]
-        found += lines_of(argv, MYPYPATH=f"{folder}:report:.")
+        found += lines_of(argv, MYPYPATH=f"{folder}:report:tools:.")
     return [it for it in found if ": note: " not in it]
 
 
 def by_lint_tree(program: str, sources: List[Source], base: str) -> List[str]:
-    return [it for it in lines_of([program, "tests/lint_tree.py"]) if not it.startswith(("lint: ", "left out: "))]
+    return [it for it in lines_of([program, "tools/lint_tree.py"]) if not it.startswith(("lint: ", "left out: "))]
 
 
 def where(program: str) -> str:

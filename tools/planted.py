@@ -66,7 +66,7 @@ class Said(NamedTuple):
 
 
 def tried(room: str) -> Said:
-    argv = [sys.executable, f"{room}/tests/mutants.py"]
+    argv = [sys.executable, f"{room}/tools/mutants.py"]
     there = {**os.environ, "XDG_CACHE_HOME": f"{room}/cache"}
     pipe, joined = subprocess.PIPE, subprocess.STDOUT
     ran = subprocess.run(argv, cwd=room, env=there, text=True, stdout=pipe, stderr=joined)

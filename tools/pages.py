@@ -15,7 +15,7 @@ import os
 import re
 from typing import Dict, Iterator, List, Optional, Set, Tuple
 
-from golden import Row
+from testing.golden import Row
 from testing.traces import is_row
 
 Finding = Tuple[str, int, str]

@@ -2,8 +2,8 @@
 """Finds a bug as `make demo` shows it: with a recorded program if a C compiler is there, and else
 in stored traces.
 
-usage: tests/demo.py PROGRAM -- COMMAND..    runs a recorded command under asancol-run
-       tests/demo.py PROGRAM TRACE..         checks stored traces
+usage: tools/demo.py PROGRAM -- COMMAND..    runs a recorded command under asancol-run
+       tools/demo.py PROGRAM TRACE..         checks stored traces
 
 PROGRAM is a built asancol, or - for one that is built for this and not proved. The status is 0 if
 the bug was found.
@@ -26,7 +26,7 @@ NOT_PROVED = "This run is by a program that is not proved yet; `make` proves and
 def run_command(program: str, command: List[str]) -> bool:
     """Runs a command under asancol-run, and returns whether it has a report."""
     argv = ["run/asancol-run", "--", *command]
-    checker = f"{TOP}/tests/unproved.py" if program == "-" else os.path.abspath(program)
+    checker = f"{TOP}/tools/unproved.py" if program == "-" else os.path.abspath(program)
     print(shlex.join(argv), flush=True)
     ran = subprocess.run(argv, cwd=TOP, env={**os.environ, "ASANCOL": checker})
     print(f"status {ran.returncode}", flush=True)

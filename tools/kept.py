@@ -27,7 +27,7 @@ def sum_of(top: str, lines: List[str], files: List[str]) -> str:
     """Returns a sum of the toolchain, the scripts, these lines, and these files below `top`."""
     version = subprocess.run(["rt", "version"], stdout=subprocess.PIPE, text=True, check=True)
     total = hashlib.sha256(repr((version.stdout, lines)).encode())
-    for path in [*(f"{TOP}/tests/{it}.py" for it in SCRIPTS), *files]:
+    for path in [*(f"{TOP}/tools/{it}.py" for it in SCRIPTS), *files]:
         name = os.path.relpath(path, top) if path.startswith(f"{top}/") else os.path.basename(path)
         with open(path, "rb") as file:
             total.update(repr((name, file.read())).encode())

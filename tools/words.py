@@ -6,7 +6,7 @@ be proved again.
 Pages have a clause where English has a noun no more often than the table of habits says, and comments in C and Python
 no more often than the table of folders. Sentences of pages with two semicolons or more are counted, too.
 
-usage: tests/words.py FOLDER..
+usage: tools/words.py FOLDER..
 
 lists the habits in the comments of these folders.
 """
@@ -40,7 +40,7 @@ PATTERNS = [
 NAMES = re.compile(r"restat|(?:^|/)(?:hygiene|second_reading|worked|wrong(?:_alone)?|seen_whole)\b")
 # What is not read; and of what the names are not looked at either.
 UNREAD = re.compile(
-    r"docs/CALLS\.md|tests/words\.py|.*\.trace"
+    r"docs/CALLS\.md|tools/words\.py|.*\.trace"
     r"|crates/\w+/(?:src|specs|proofs|mutants)/"
 )
 PROVED = re.compile(r"crates/asan_laws/")
@@ -101,11 +101,11 @@ def habits_of(texts: List[str]) -> Iterator[Finding]:
         count = len(re.findall(rf"\b(?:{habit.pattern})\b", text, re.I))
         if count > habit.at_most:
             said = f"{count} times '{habit.pattern}' in pages, and at most {habit.at_most} are allowed"
-            yield "tests/words.py", 1, f"{said}: write {habit.instead}"
+            yield "tools/words.py", 1, f"{said}: write {habit.instead}"
     chains = sum(chains_of(it) for it in texts)
     if chains > MOST_CHAINS:
         said = f"{chains} sentences of pages have two semicolons or more, and at most {MOST_CHAINS} are allowed"
-        yield "tests/words.py", 1, f"{said}: write a sentence for each fact, or a list"
+        yield "tools/words.py", 1, f"{said}: write a sentence for each fact, or a list"
 
 
 # Phrases to avoid in comments too, and how many a folder may have. Lower a number when you remove one.
@@ -122,7 +122,7 @@ BREAK = re.compile(r"\s*\n[\s*#/]*")
 def folder_of(path: str) -> str:
     """Returns the folder by which a file's comments are counted, or nothing for a file without such comments."""
     parts = path.split("/")
-    if path == "tests/words.py" or parts[0] == "crates" or not path.endswith((".c", ".cpp", ".def", ".h", ".py")):
+    if path == "tools/words.py" or parts[0] == "crates" or not path.endswith((".c", ".cpp", ".def", ".h", ".py")):
         return ""
     return "/".join(parts[:2]) if "tests" in parts[1:-1] else parts[0]
 
@@ -144,7 +144,7 @@ def too_many(habits: List[Finding]) -> Iterator[Finding]:
         most = MOST_IN_COMMENTS.get(folder, 0)
         if count > most:
             said = f"{count} foreign phrases in comments of {folder}, and at most {most} are allowed"
-            yield "tests/words.py", 1, f"{said}: write a noun. `tests/words.py {folder}` lists them"
+            yield "tools/words.py", 1, f"{said}: write a noun. `tools/words.py {folder}` lists them"
 
 
 def findings(files: List[str]) -> Iterator[Finding]:
@@ -153,7 +153,7 @@ def findings(files: List[str]) -> Iterator[Finding]:
     in_comments: List[Tuple[str, int, str]] = []
     for path in files:
         if NAMES.search(path) and not PROVED.match(path):
-            yield path, 1, "an old word in its name: tests/words.py has the new ones"
+            yield path, 1, "an old word in its name: tools/words.py has the new ones"
         if UNREAD.match(path):
             continue
         with open(f"{TOP}/{path}", encoding="utf-8", errors="replace") as file:

@@ -1,7 +1,7 @@
 #!/usr/bin/env python3
 """Runs the tests in some minutes, and proves nothing.
 
-usage: tests/quick.py [--checked] [WORD..]
+usage: tools/quick.py [--checked] [WORD..]
 
 Side by side run, by as many jobs as there are processors:
 
@@ -195,7 +195,7 @@ class Quick:
             self.results.skip("rt is not there, nor ./asancol: the tests of the program")
             return None
         path = f"{self.room}/unproved/asancol"
-        is_built = self.results.run("program: build", ["tests/unproved.py", "--build", path])
+        is_built = self.results.run("program: build", ["tools/unproved.py", "--build", path])
         return path if is_built else None
 
     def program(self, path: Optional[str]) -> None:
@@ -271,7 +271,7 @@ class Quick:
 
 
 def main(argv: List[str]) -> int:
-    about, _, more = (__doc__ or "").partition("usage: tests/quick.py [--checked] [WORD..]\n")
+    about, _, more = (__doc__ or "").partition("usage: tools/quick.py [--checked] [WORD..]\n")
     reader = argparse.ArgumentParser(
         description=f"{about.strip()}\n{more}",
         formatter_class=argparse.RawDescriptionHelpFormatter,

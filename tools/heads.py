@@ -79,7 +79,7 @@ def constant_of(path: str, name: str) -> Any:
     for it in ast.parse(read(path)).body:
         if isinstance(it, ast.Assign) and [ast.unparse(to) for to in it.targets] == [name]:
             return ast.literal_eval(it.value)
-    raise SystemExit(f"tests/heads.py: {path} has no {name}; change LIST or the name here")
+    raise SystemExit(f"tools/heads.py: {path} has no {name}; change LIST or the name here")
 
 
 def listed(files: Set[str]) -> Set[str]:
@@ -94,7 +94,7 @@ def findings(files: List[str]) -> Iterator[Finding]:
     known = set(files)
     handlers = listed(known)
     for path in sorted((handlers | EXEMPT) - known):
-        yield ("tests/heads.py" if path in EXEMPT else LIST), 1, f"there is no {path}"
+        yield ("tools/heads.py" if path in EXEMPT else LIST), 1, f"there is no {path}"
     for path in files:
         if not is_head(path, known) or path in EXEMPT:
             continue
