@@ -301,6 +301,13 @@ void recorder_finish(enum finish finish)
     stream_say_left_out();
 }
 
+/* Of the modules, or 0. The loader's lock is taken by who has none of ours: a handler may have interrupted this thread
+   in the allocator, and another one that has the loader's lock waits for the allocator's. */
+static uint64_t generation_now(void)
+{
+    return heap_is_entered() ? 0 : library_generation();
+}
+
 void recorder_exit(bool is_last)
 {
     if (!recorder_is_own_process()) {
@@ -308,7 +315,7 @@ void recorder_exit(bool is_last)
         return;
     }
     heap_ends_here();
-    stream_close(is_last, library_generation()); /* the loader's lock is taken by who has none of ours */
+    stream_close(is_last, generation_now());
     if (is_last)
         stream_say_left_out();
 }
@@ -330,7 +337,7 @@ static bool leave_for_exec(void)
     }
     if (stream_state() == STATE_OFF)
         return false;
-    uint64_t generation = library_generation(); /* the loader's lock is taken by who has none of ours */
+    uint64_t generation = generation_now();
     /* Nobody switches to another segment from here on. */
     heap_lock();
     enum state state = stream_state();
@@ -370,13 +377,13 @@ static bool forks_recorded(void)
 /* The handlers of a fork are not given its result: but if it fails it sets errno, and nothing comes between. */
 static void before_fork(void)
 {
-    /* Its lock is taken by who has none of ours. */
-    uint64_t generation = library_generation();
-    process.forked_inside = heap_is_entered();
-    process.forked_alone = library_is_alone();
+    uint64_t generation = generation_now();
+    bool is_inside = heap_is_entered();
     heap_lock();
-    stream_lock();
-    if (forks_recorded())
+    stream_lock(); /* of two threads that fork at once, each says it of its own child */
+    process.forked_inside = is_inside;
+    process.forked_alone = library_is_alone();
+    if (forks_recorded() && !is_inside)
         side_look_at_generation(generation);
     process.error_before_fork = errno;
     errno = 0;

@@ -7,7 +7,8 @@
    signals.c in a handler; the handlers of a fork by the C library; and the questions by anybody. Lock: the caller has
    none of the recorder's, but a handler may have interrupted the allocator: then no recording begins. What begins a
    recording takes the allocator's and then the stream's (README.md has the order), what ends one the stream's, and
-   recorder_before_exec keeps the allocator's; before these an exit, an exec and a fork take the loader's for a moment.
+   recorder_before_exec keeps the allocator's; before these an exit, an exec and a fork take the loader's for a moment,
+   but not in a handler that has interrupted the allocator.
    A question takes none. Nothing is allocated. */
 #ifndef ASANCOL_PROCESS_H
 #define ASANCOL_PROCESS_H

@@ -4,6 +4,7 @@
 #include <errno.h>
 #include <fcntl.h>
 #include <link.h>
+#include <malloc.h>
 #include <pthread.h>
 #include <sched.h>
 #include <setjmp.h>
@@ -446,6 +447,65 @@ static void forks_beside_the_loader(void)
     }
 }
 
+/* A thread has the loader's lock, and waits for the allocator, in the middle of which a handler of another thread ends
+   the process, starts another program, or forks. */
+
+static atomic_int has_begun, has_come;
+static int way_out;
+
+static void go_out(int number)
+{
+    int status = 0;
+    atomic_store(&has_come, number);
+    usleep(5000);
+    if (way_out == 0)
+        _exit(0);
+    if (way_out == 1)
+        execl("/bin/true", "true", NULL);
+    pid_t child = fork();
+    if (child == 0)
+        _exit(0);
+    _exit(child < 0 || waitpid(child, &status, 0) != child || status != 0);
+}
+
+static void *allocate_on(void *unused)
+{
+    for (;; atomic_store(&has_begun, 1))
+        free(hide(malloc(24)));
+    return unused;
+}
+
+static int wait_for_allocator(struct dl_phdr_info *module, size_t size, void *thread)
+{
+    (void)module, (void)size;
+    pthread_kill(*(pthread_t *)thread, SIGUSR1);
+    while (!atomic_load(&has_come))
+        ;
+    mallinfo2();
+    return 1;
+}
+
+static void handlers_beside_the_loader(void)
+{
+    for (int i = 0; i < 30; i++) {
+        int status;
+        pid_t child = fork();
+        if (child == 0) {
+            pthread_t thread;
+            alarm(20);
+            way_out = i % 3;
+            signal(SIGUSR1, go_out);
+            pthread_create(&thread, NULL, allocate_on, NULL);
+            while (!atomic_load(&has_begun))
+                ;
+            dl_iterate_phdr(wait_for_allocator, &thread);
+            pthread_join(thread, NULL);
+        }
+        if (waitpid(child, &status, 0) != child || status != 0)
+            _exit(1);
+    }
+}
+
 static void fork_on_signal(int number)
 {
     (void)number;
@@ -803,7 +863,7 @@ static const struct {
     LIFE(loses_its_trace), LIFE(loses_its_trace_at_the_end), LIFE(keeps_little), LIFE(fills_its_space),
     LIFE(ends_by_another_signal),
     LIFE(threads_exchange), LIFE(many_threads), LIFE(ends_with_threads), LIFE(forks), LIFE(forks_in_a_thread),
-    LIFE(forks_beside_the_loader),
+    LIFE(forks_beside_the_loader), LIFE(handlers_beside_the_loader),
     LIFE(forks_by_the_system), LIFE(forks_quietly), LIFE(clones), LIFE(vforks), LIFE(execs), LIFE(execs_in_vain),
     LIFE(spawns), LIFE(closes_all),
     LIFE(counts_descriptors), LIFE(closes_errors), LIFE(writes_past_a_limit), LIFE(fills_its_memory),

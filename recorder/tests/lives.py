@@ -103,6 +103,13 @@ def check_fork_beside_the_loader(suite, folder, program):
     expect([(texts, end.split()[0]) for texts, end in ends], [([], "closed")] * 101)
 
 
+def check_handlers_beside_the_loader(suite, folder, program):
+    """A handler in the middle of the allocator waits for no thread that has the loader's lock: that may wait for it."""
+    ran = run([program, "handlers_beside_the_loader"], folder, ASANCOL_TRACE="%p.trace", ASANCOL_FULL="0")
+    lines = ran.stderr.decode().splitlines()
+    expect((ran.returncode, [line for line in lines if "a forked child is not recorded" not in line]), (0, []))
+
+
 def check_fork_in_handlers(suite, folder, program):
     ran = run([program, "forks_in_handlers"], folder, ASANCOL_TRACE="%p.trace")
     lines = ran.stderr.decode().splitlines()
@@ -265,6 +272,7 @@ def tests(suite, compiler):
         suite.test(f"{compiler} {name}", check_life, program, name, status, fate, wanted)
     suite.test(f"{compiler} fork", check_fork, program)
     suite.test(f"{compiler} fork beside the loader", check_fork_beside_the_loader, program)
+    suite.test(f"{compiler} handlers beside the loader", check_handlers_beside_the_loader, program)
     suite.long_test(f"{compiler} fork in a thread", check_fork_in_a_thread, program)
     suite.test(f"{compiler} fork in handlers", check_fork_in_handlers, program)
     suite.test(f"{compiler} exec", check_exec, program)
