@@ -1,8 +1,7 @@
 /* What the program wants to be called after each malloc and before each free (heap_add_hooks).
 
    Called: by allocating.c, in the thread that allocates or frees, also in a handler. No lock is held, so the program's
-   functions may allocate. heap_add_hooks (heap.h) by interface/interface.c; of two threads that add at once one may be
-   lost. */
+   functions may allocate. heap_add_hooks (heap.h) by interface/interface.c, in any thread, also in a handler. */
 #ifndef ASANCOL_PROGRAM_HOOKS_H
 #define ASANCOL_PROGRAM_HOOKS_H
 

@@ -535,6 +535,61 @@ def check_kept_blocks(suite: Suite, folder: str, compiler: Compiler) -> None:
         os.unlink(f"{folder}/t.trace")
 
 
+# Five hooks, which as many threads add at once: in each of these children.
+HOOKS = """
+#include <pthread.h>
+#include <sched.h>
+#include <stdatomic.h>
+#include <stdlib.h>
+#include <sys/wait.h>
+#include <unistd.h>
+enum { HOOKS = 5, CHILDREN = 200, SIZE = 77 };
+int __sanitizer_install_malloc_and_free_hooks(void (*)(const volatile void *, size_t), void (*)(const volatile void *));
+static atomic_int to_come, called[HOOKS], answers[HOOKS + 1];
+#define HOOK(n) static void hook_##n(const volatile void *start, size_t size) { called[n] += size == SIZE; }
+HOOK(0) HOOK(1) HOOK(2) HOOK(3) HOOK(4)
+static void (*const hooks[])(const volatile void *, size_t) = {hook_0, hook_1, hook_2, hook_3, hook_4};
+static void *add(void *hook)
+{
+    to_come--;
+    while (to_come != 0) sched_yield();
+    answers[__sanitizer_install_malloc_and_free_hooks(*(void (**)(const volatile void *, size_t))hook, NULL)]++;
+    return NULL;
+}
+static int add_at_once(void)
+{
+    pthread_t threads[HOOKS];
+    to_come = HOOKS;
+    for (int i = 0; i < HOOKS; i++) pthread_create(&threads[i], NULL, add, (void *)&hooks[i]);
+    for (int i = 0; i < HOOKS; i++) pthread_join(threads[i], NULL);
+    if (__sanitizer_install_malloc_and_free_hooks(hook_0, NULL) != 0) return 1;
+    void *volatile block = malloc(SIZE);
+    free(block);
+    for (int i = 0; i < HOOKS; i++)
+        if (called[i] != 1 || answers[i + 1] != 1) return 1;
+    return 0;
+}
+int main(void)
+{
+    for (int i = 0; i < CHILDREN; i++) {
+        int status = -1;
+        pid_t child = fork();
+        if (child == 0) _exit(add_at_once());
+        if (waitpid(child, &status, 0) != child || status != 0) return 1;
+    }
+    return 0;
+}
+"""
+
+
+def check_hooks_at_once(suite: Suite, folder: str, compiler: Compiler) -> None:
+    """None of them is lost, each has another number, and a sixth one is refused."""
+    write(folder, hooks_c=HOOKS)
+    compiler.c(folder, ["hooks.c"], f"{folder}/hooks", "-w", "-O1", "-pthread")
+    ran = run(["./hooks"], folder)
+    expect((ran.returncode, ran.stderr), (0, b""), "the program")
+
+
 def check_told(suite: Suite, folder: str, compiler: Compiler, argv: Sequence[str]) -> None:
     """What a program is told of reports, and learns of addresses, is what AddressSanitizer says."""
     flags = ["-w", "-g", "-O0", "-fno-builtin"]
@@ -622,6 +677,7 @@ def sound_tests(suite: Suite, compiler: Compiler) -> None:
     suite.test(f"{compiler} second allocator", check_second_allocator, compiler)
     suite.test(f"{compiler} interface", check_interface, compiler)
     suite.test(f"{compiler} interface: kept blocks", check_kept_blocks, compiler)
+    suite.test(f"{compiler} interface: hooks at once", check_hooks_at_once, compiler)
     if compiler.has_sanitizer:
         ways: List[List[str]] = [[], ["double"], ["bad"]]
         for argv in ways:
