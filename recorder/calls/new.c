@@ -103,9 +103,10 @@ static inline enum family family_or_any(enum family family)
     WRAPPED void *__wrap_##name parameters                                                                             \
     {                                                                                                                  \
         IS_OWN_FRAME;                                                                                                  \
-        note_operator(CALLER(), family_or_any(family), 0, 0);                                                          \
+        struct said before;                                                                                            \
+        note_operator(&before, CALLER(), (struct use){family_or_any(family), 0, 0});                                   \
         void *made = real_##name arguments;                                                                            \
-        note_operator_end();                                                                                           \
+        note_operator_end(&before);                                                                                    \
         return made;                                                                                                   \
     }
 
@@ -114,9 +115,10 @@ static inline enum family family_or_any(enum family family)
     WRAPPED void __wrap_##name parameters                                                                              \
     {                                                                                                                  \
         IS_OWN_FRAME;                                                                                                  \
-        note_operator(CALLER(), family_or_any(family), alignment, size_and_one);                                       \
+        struct said before;                                                                                            \
+        note_operator(&before, CALLER(), (struct use){family_or_any(family), alignment, size_and_one});                \
         real_##name arguments;                                                                                         \
-        note_operator_end();                                                                                           \
+        note_operator_end(&before);                                                                                    \
     }
 
 /* The library rounds the size up to the alignment, so that what lies between would belong to the block. Null: it has to
@@ -131,11 +133,12 @@ static void *aligned_new(size_t size, size_t alignment)
     WRAPPED void *__wrap_##name parameters                                                                             \
     {                                                                                                                  \
         IS_OWN_FRAME;                                                                                                  \
-        note_operator(CALLER(), family_or_any(family), alignment, 0);                                                  \
+        struct said before;                                                                                            \
+        note_operator(&before, CALLER(), (struct use){family_or_any(family), alignment, 0});                           \
         void *made = aligned_new(size, alignment);                                                                     \
         if (made == NULL)                                                                                              \
             made = real_##name arguments;                                                                              \
-        note_operator_end();                                                                                           \
+        note_operator_end(&before);                                                                                    \
         return made;                                                                                                   \
     }
 

@@ -311,8 +311,20 @@ static inline __attribute__((always_inline)) void *allocate(size_t size, size_t 
     return address;
 }
 
+/* Before the malloc of an operator that a signal handler has interrupted. */
+static __attribute__((noinline, cold)) void *allocate_between(size_t size, size_t alignment, bool zeroed,
+                                                              uintptr_t caller)
+{
+    struct said of_operator = origin_put_aside();
+    void *address = heap_allocate(size, alignment, zeroed, caller);
+    said = of_operator;
+    return address;
+}
+
 void *heap_allocate(size_t size, size_t alignment, bool zeroed, uintptr_t caller)
 {
+    if (origin_is_of_another((uintptr_t)__builtin_frame_address(0)))
+        return allocate_between(size, alignment, zeroed, caller);
     return allocate(size, alignment, zeroed, origin_of(origin_caller_or(caller)));
 }
 
@@ -387,8 +399,19 @@ static void prefetch_notes(uintptr_t address)
         __builtin_prefetch(&call_sites[block_number(number, slot)], 1);
 }
 
+static __attribute__((noinline, cold)) void give_back_between(void *pointer, uintptr_t caller)
+{
+    struct said of_operator = origin_put_aside();
+    heap_give_back(pointer, caller);
+    said = of_operator;
+}
+
 void heap_give_back(void *pointer, uintptr_t caller)
 {
+    if (origin_is_of_another((uintptr_t)__builtin_frame_address(0))) {
+        give_back_between(pointer, caller);
+        return;
+    }
     struct use use = origin_take_use();
     caller = origin_caller_or(caller);
     if (pointer == NULL)
@@ -431,8 +454,18 @@ void heap_keep_empty(bool is_on)
     atomic_store(&empty_is_kept, is_on);
 }
 
+static __attribute__((noinline, cold)) void *move_between(void *old, size_t size, uintptr_t caller, const char *call)
+{
+    struct said of_operator = origin_put_aside();
+    void *moved = heap_move(old, size, caller, call);
+    said = of_operator;
+    return moved;
+}
+
 void *heap_move(void *old, size_t size, uintptr_t caller, const char *call)
 {
+    if (origin_is_of_another((uintptr_t)__builtin_frame_address(0)))
+        return move_between(old, size, caller, call);
     caller = origin_caller_or(caller);
     said.frame = 0;
     struct origin from = origin_of(caller);

@@ -324,6 +324,7 @@ static bool was_left_at(uintptr_t frame)
 void heap_left_by_jump(uintptr_t target)
 {
     was_left_at(target);
+    origin_left_by_jump(target);
 }
 
 void heap_ends_here(void)

@@ -50,13 +50,10 @@ void heap_is_poisoned(void);
 /* The next malloc of this thread is recorded with this call site, and not with that of libc's code which calls it. */
 void heap_called_from(uintptr_t caller);
 
-/* The next malloc or free of this thread is an operator's, which was given this alignment; or 0. One that knows the
-   size of what it deletes says one more; others say 0. FAMILY_MALLOC takes it back. */
-void heap_called_by(enum family family, size_t alignment, size_t size_and_one);
-/* Both at once, and both taken back. */
-void heap_operator_begins(uintptr_t caller, enum family family, size_t alignment, size_t size_and_one)
-    OWN_NAME(heap_operator_begins);
-void heap_operator_ends(void) OWN_NAME(heap_operator_ends);
+/* The next malloc or free of this thread is that of an operator, which has this caller. `before` is the operator's own,
+   up to its end: it keeps the word of an operator that a signal handler has interrupted to come here. */
+void heap_operator_begins(struct said *before, uintptr_t caller, struct use use) OWN_NAME(heap_operator_begins);
+void heap_operator_ends(const struct said *before) OWN_NAME(heap_operator_ends);
 /* Whether the next malloc of this thread is that of an operator of a library's. */
 bool heap_is_called_by_operator(void);
 /* Whether a free of another family is noted; and a delete with another size or alignment. */

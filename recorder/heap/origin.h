@@ -1,8 +1,8 @@
 /* For whom the next malloc or free of this thread is: the caller that stands for it, and the operator of C++.
 
    Called: by allocating.c, freeing.c and entering.c in the thread that allocates or frees. `said` is written before, in
-   the same thread, by heap_called_from and its like (heap.h), which checks and operators call; a handler that allocates
-   in between takes it. No lock: it is thread-local. */
+   the same thread, by heap_called_from and its like (heap.h), which checks and operators call. A handler that allocates
+   in between takes the word of a check, but not that of an operator. No lock: it is thread-local. */
 #ifndef ASANCOL_ORIGIN_H
 #define ASANCOL_ORIGIN_H
 
@@ -14,19 +14,35 @@
 #include "libc/family.h"
 #include "stacks/stacks.h"
 
-/* What it is for. */
-struct use {
-    enum family family;
-    size_t alignment;    /* that an operator was given; or 0 */
-    size_t size_and_one; /* that a delete knows; 0: it does not */
-};
+extern _Thread_local struct said said;
 
-/* The facts given of this thread's next one: its use, and the caller for whom the C library allocates, with the frame
-   of the function that said so. */
-extern _Thread_local struct said {
-    struct use use;
-    uintptr_t caller, frame;
-} said;
+/* The frame of an operator's malloc or free is at most so far below that of the operator. That of a signal handler is
+   farther away: the system puts more than this between them, or it has another stack. */
+enum { OPERATOR_REACH = 1024 };
+
+/* Whether the word is that of an operator of a C++ library, which has yet to call malloc or free. */
+static inline bool origin_has_operator(void)
+{
+    return said.use.family == FAMILY_NEW || said.use.family == FAMILY_NEW_ARRAY;
+}
+
+/* The same, and this frame is that of a malloc or free which a signal handler calls before the operator does. */
+static inline bool origin_is_of_another(uintptr_t frame)
+{
+    return UNLIKELY(origin_has_operator()) && UNLIKELY(said.frame - frame > OPERATOR_REACH);
+}
+
+/* Such a handler's use is not known, since an allocator of the program's may lie between an operator and this one. The
+   word stays the operator's: the handler gives back what this answers. */
+static inline struct said origin_put_aside(void)
+{
+    struct said of_operator = said;
+    said = (struct said){.use.family = FAMILY_ANY};
+    return of_operator;
+}
+
+/* This thread jumps to this stack pointer, maybe out of a handler that has interrupted an operator. */
+void origin_left_by_jump(uintptr_t target);
 
 /* The given use, which is then taken back. */
 static inline struct use origin_take_use(void)

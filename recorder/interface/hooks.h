@@ -95,23 +95,22 @@ static inline bool is_recorded(void)
 }
 
 /* Always: the frame of who calls this is that of the operator. */
-static inline __attribute__((always_inline)) void note_operator(uintptr_t caller, enum family family, size_t alignment,
-                                                                size_t size_and_one)
+static inline __attribute__((always_inline)) void note_operator(struct said *before, uintptr_t caller, struct use use)
 {
 #ifdef IN_SHARED_OBJECT
-    note_called_from(caller);
-    note_called_by(family, alignment, size_and_one);
+    before->use.family = FAMILY_MALLOC;
+    note_operator_begins(before, caller, use);
 #else
-    heap_operator_begins(caller, family, alignment, size_and_one);
+    heap_operator_begins(before, caller, use);
 #endif
 }
 
-static inline void note_operator_end(void)
+static inline void note_operator_end(const struct said *before)
 {
 #ifdef IN_SHARED_OBJECT
-    note_operator(0, FAMILY_MALLOC, 0, 0);
+    note_operator_ends(before);
 #else
-    heap_operator_ends();
+    heap_operator_ends(before);
 #endif
 }
 

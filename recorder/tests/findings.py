@@ -217,6 +217,71 @@ def check_handed_over(suite, folder, compiler):
         expect([FORMS[it.kind].class_of(it) for it in found], wanted, " ".join(argv))
 
 
+# A handler comes before an instruction of an operator new or delete, at one after another of the first ones. What it
+# allocates is given back as it was allocated; the block of the operator is freed, if there is a word.
+BETWEEN = r"""
+#include <climits>
+#include <csignal>
+#include <cstdlib>
+#include <ucontext.h>
+enum { TRAP_FLAG = 1 << 8, STEPS = 150 };
+static volatile long steps_left = LONG_MAX;
+static void *volatile kept;
+static volatile bool uses_operators;
+static void step(int, siginfo_t *, void *context) {
+    if ((steps_left = steps_left - 1) != 0) return;
+    ((ucontext_t *)context)->uc_mcontext.gregs[REG_EFL] &= ~TRAP_FLAG;
+    if (uses_operators) delete new int;
+    else free(realloc(malloc(40), 50));
+    kept = malloc(24);
+}
+static __attribute__((noinline)) void set_stepping(bool is_on) {
+    unsigned long long flags = __builtin_ia32_readeflags_u64() & ~(unsigned long long)TRAP_FLAG;
+    __builtin_ia32_writeeflags_u64(is_on ? flags | TRAP_FLAG : flags);
+}
+static void go_through(bool is_freed, long before) {
+    long in_new = before <= STEPS ? before : LONG_MAX, in_delete = before <= STEPS ? LONG_MAX : before - STEPS;
+    if (before == 0) return delete new int;
+    steps_left = in_new;
+    set_stepping(in_new != LONG_MAX);
+    int *volatile block = new int;
+    set_stepping(false);
+    steps_left = in_delete;
+    set_stepping(in_delete != LONG_MAX && !is_freed);
+    if (is_freed) free(block);
+    else delete block;
+    set_stepping(false);
+    free(kept);
+    kept = nullptr;
+}
+int main(int count, char **) {
+    struct sigaction action = {};
+    action.sa_sigaction = step;
+    action.sa_flags = SA_SIGINFO;
+    sigaction(SIGTRAP, &action, nullptr);
+    for (int form = 0; form < 2; form++)
+        for (long before = 0; before <= (count > 1 ? STEPS : 2 * STEPS); before++) {
+            uses_operators = form != 0;
+            go_through(count > 1, before);
+        }
+}
+"""
+
+
+def check_between(suite, folder, compiler):
+    """A handler allocates and frees before the malloc or free of an operator that it has interrupted."""
+    with open(f"{folder}/b.cpp", "w", encoding="utf-8") as file:
+        file.write(BETWEEN)
+    compiler.cpp(folder, ["b.cpp"], "b", "-w", "-O1", "-fno-builtin")
+    for argv, wanted in ((["./b"], 0), (["./b", "frees"], 300)):
+        trace = f"{folder}/{len(argv)}.trace"
+        ran = run(argv, folder, ASANCOL_TRACE=trace, ASANCOL_WHERE="1", ASANCOL_FULL="0")
+        found = list(side_of(trace).findings())
+        expect((ran.returncode, sum(it.count for it in found)), (0, wanted), " ".join(argv))
+        expect({(FORMS[it.kind].class_of(it), it.name) for it in found},
+               {(FAMILY, "operator new")} if wanted else set(), " ".join(argv))
+
+
 def tests(suite, compiler):
     if not compiler.cxx or not compiler.has_sanitizer:
         return
@@ -231,6 +296,7 @@ def tests(suite, compiler):
     for some in FLAGS:
         suite.test(f"{compiler} by the recorder: replaced operators {' '.join(some)}", check_replaced, compiler, some)
     suite.test(f"{compiler} by the recorder: handed over", check_handed_over, compiler)
+    suite.test(f"{compiler} by the recorder: between an operator and its malloc", check_between, compiler)
     for is_native, some in ((False, []), (True, []), (True, ["-static-libstdc++"])):
         name = " ".join(["plain"] * is_native + some)
         suite.test(f"{compiler} by the recorder: an opened library {name}", check_opened, compiler, is_native, some)
