@@ -248,7 +248,7 @@ static bool has_stopped(struct segment *segment)
 /* Whether the process itself has raised it, by a mistake. */
 static bool is_crash(unsigned number)
 {
-    static const unsigned crashes[] = {SIGSEGV, SIGBUS, SIGILL, SIGFPE, SIGABRT, SIGSYS};
+    static const unsigned crashes[] = {SIGSEGV, SIGBUS, SIGILL, SIGFPE, SIGABRT, SIGSYS, SIGTRAP};
     for (size_t i = 0; i < sizeof crashes / sizeof *crashes; i++)
         if (crashes[i] == number)
             return true;

@@ -75,6 +75,7 @@ ADVICE = (
      "a wrong function pointer; otherwise the code was built for another processor."),
     (r"^FPE$", "Find where the divisor comes from, and with integers look also for the smallest number divided by "
      "-1."),
+    (r"^TRAP$", "Look for a breakpoint that was left in the code, and on ARM as for `ILL`."),
     (r"^SYS$", "Allow this system call in the sandbox, or avoid it."),
     (r"^ABRT$", "Read what the program printed before it aborted; if a test expects this, suppress it."),
 )

@@ -12,7 +12,7 @@ from .words import signal_name
 # Signals that a process raises itself, by a mistake, and what AddressSanitizer calls it.
 CRASHES: Dict[int, str] = {
     signal.SIGSEGV: "SEGV", signal.SIGBUS: "BUS", signal.SIGILL: "ILL", signal.SIGFPE: "FPE", signal.SIGABRT: "ABRT",
-    signal.SIGSYS: "SYS",
+    signal.SIGSYS: "SYS", signal.SIGTRAP: "TRAP",
 }
 STACK_OVERFLOW = "stack-overflow"
 CRASH_CLASSES = {
@@ -22,6 +22,7 @@ CRASH_CLASSES = {
     "FPE": "Arithmetic error, such as an integer division by zero",
     "ABRT": "The program aborted, such as by a failed assertion",
     "SYS": "System call that a filter forbids",
+    "TRAP": "Breakpoint without a debugger, such as for unreachable code on ARM",
     STACK_OVERFLOW: "Stack exhausted, such as by endless recursion",
 }
 NO_PLACE = "its place was not recorded"

@@ -35,6 +35,7 @@ __attribute__((constructor(101))) static void first(void) {
     if (way == NULL) return;
     if (strcmp(way, "segfault") == 0) *(volatile int *)8 = 1;
     if (strcmp(way, "abort") == 0) abort();
+    if (strcmp(way, "trap") == 0) raise(SIGTRAP);
     if (strcmp(way, "kill") == 0) kill(getpid(), SIGKILL);
     if (strcmp(way, "past") == 0) block[5] = 1;
     if (strcmp(way, "exit") == 0) exit(3);
@@ -52,6 +53,7 @@ WAYS: List[Tuple[str, str]] = [
     ("segfault", "dies: ended by SIGSEGV, by a store at address 0x8\n    #0"),
     ("abort", "dies: ended by SIGABRT\n    #0"),
     ("abort", "dies: INCOMPLETE: ended by SIGABRT before main"),
+    ("trap", "dies: ended by SIGTRAP\n"),
     ("kill", "dies: INCOMPLETE: ended abruptly, such as by SIGKILL, or by an _exit or exec in a library, before main"),
     ("past", "heap-buffer-overflow: store of 1 byte"),
     ("exit", "asancol: no reports; 1 process, "),

@@ -14,7 +14,7 @@ class Row(NamedTuple):
 # How AddressSanitizer calls what asancol-run says by the signal.
 CRASHES = {
     "SEGV": "SIGSEGV", "stack-overflow": "SIGSEGV", "BUS": "SIGBUS", "FPE": "SIGFPE", "ILL": "SIGILL",
-    "ABRT": "SIGABRT",
+    "TRAP": "SIGTRAP", "ABRT": "SIGABRT",
 }
 
 # Classes that are not claimed.
