@@ -2,7 +2,7 @@
    allocator's, and no thread the other way round. Then the other threads are stopped, and until they go on nothing is
    called that takes a lock: any other one may be held by a thread that stands still. So of the C library only
    dl_iterate_phdr is called, whose lock this thread has, and what takes none (roots.c). This thread is undisturbed
-   (base/disturbance.h) all the time.
+   (base/disturbance.h) all the time. find_lost alone has both; is_wanted, look_from and note have none.
 
    `struct search` is what one search has found: groups of lost blocks (lost.h), or why there is none. */
 #define _GNU_SOURCE

@@ -1,10 +1,10 @@
 /* Blocks that nothing leads to any more, as LeakSanitizer finds them. They become findings beside the stream
    (findings.h), one for each stack that has allocated some.
 
-   Called: leaks_look_at_end by start/start.c at an exit, the others by the program (__lsan_.., through interface/), in
-   the thread that does so; in a handler too, but nothing is found if that has interrupted the allocator. The locks are
-   taken here, in README.md's order: the loader's, and then the allocator's. leaks.c says what may be called with them.
-   */
+   Called: leaks_look_at_end by start/start.c at an exit, the others by the program (__lsan_.. of interface.c, by
+   hooks.def), in the thread that does so; in a handler too, but nothing is found if that has interrupted the allocator.
+   Lock: the caller has none. Taken here are the loader's and then the allocator's; leaks.c says what may be called with
+   them. Findings are noted once they are given back. */
 #ifndef ASANCOL_LEAKS_H
 #define ASANCOL_LEAKS_H
 

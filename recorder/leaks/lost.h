@@ -1,8 +1,8 @@
 /* Blocks that are lost, by where they were allocated.
 
-   Called: lost_find by leaks.c, in the thread that looks for leaks, with the loader's lock and the allocator's, between
-   marking_begin and marking_end; other threads run again by then, and wait if they want to allocate. lost_forget
-   without a lock. Memory is taken from the system. */
+   Called: by leaks.c, in the thread that looks for leaks, maybe in a handler (leaks.h): lost_find with the loader's
+   lock and the allocator's, between marking_begin and marking_end; other threads run again by then, and wait if they
+   want to allocate. lost_forget without a lock. No lock is taken, and memory is the system's. */
 #ifndef ASANCOL_LOST_H
 #define ASANCOL_LOST_H
 

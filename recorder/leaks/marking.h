@@ -1,10 +1,11 @@
 /* Which blocks something leads to. A word leads to a block if it is the address of any of its bytes, as
    LeakSanitizer has it. A word whose memory is off limits leads nowhere.
 
-   Called: by leaks.c, roots.c and lost.c, in the thread that looks for leaks, maybe in a handler (leaks.h). Lock:
-   leaks.c takes the loader's and the allocator's before marking_begin and gives them back after marking_end, also if
-   either fails. From the first mark to mark_indirect all other threads stand still, and may have any other lock: so
-   nothing is called that takes one or allocates. Memory is taken from the system by marking_begin. */
+   Called: marking_begin, marking_end and mark_indirect by leaks.c, mark_of also by lost.c, the rest by roots.c, in the
+   thread that looks for leaks, maybe in a handler (leaks.h). Lock: leaks.c takes the loader's and the allocator's
+   before marking_begin and gives them back after marking_end, also if either fails. From the first mark to
+   mark_indirect all other threads stand still, and may have any other lock: so nothing is called that takes one or
+   allocates. Memory is taken from the system by marking_begin. */
 #ifndef ASANCOL_MARKING_H
 #define ASANCOL_MARKING_H
 

@@ -1,8 +1,8 @@
 /* Memory that the process has named as a root, by __lsan_register_root_region.
 
-   Called: root_region_add and root_region_remove by the program (through interface/), in any thread: they take the
-   allocator's lock, which guards the table. root_regions_visit by roots.c with that lock, in the thread that looks for
-   leaks, while all others stand still; it takes memory from the system. */
+   Called: root_region_add and root_region_remove by the program (interface.c, by hooks.def), in any thread, also in a
+   handler, without a lock: they take the allocator's, which guards the table. root_regions_visit by roots.c with that
+   lock, in the thread that looks for leaks, while all others stand still; it takes memory from the system. */
 #ifndef ASANCOL_ROOT_REGIONS_H
 #define ASANCOL_ROOT_REGIONS_H
 

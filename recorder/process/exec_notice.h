@@ -1,9 +1,10 @@
 /* A program that this process becomes by an exec, or begins as a child: if asancol-cc has built it, the hub expects it
    to connect. It may die before it does, in the dynamic linker already, or not know of the hub.
 
-   Called: by the checks of the program's exec, posix_spawn and wait (calls, by hooks.def), in any thread, also in a
-   signal handler and in a child of vfork. Lock: the caller has none. exec_notice_leave takes the allocator's, and keeps
-   it up to the exec, or up to recorder_exec_failed if that fails. Nothing is allocated. */
+   Called: by the checks of the program's exec (exits.c), posix_spawn and wait (rows.h), by hooks.def, in any thread,
+   also in a signal handler and in a child of vfork. Lock: the caller has none. exec_notice_leave takes the loader's for
+   a moment, and then the allocator's, which it keeps up to the exec, or up to recorder_exec_failed if that fails, and
+   the stream's. The others take none. Nothing is allocated. */
 #ifndef ASANCOL_EXEC_NOTICE_H
 #define ASANCOL_EXEC_NOTICE_H
 

@@ -1,12 +1,13 @@
 /* The end of the process at the first access or free that the shadow flags, by ASANCOL_HALT; or the beginning of the
    recording there, if a preloaded recorder waits for it.
 
-   Called: halt_at by the stream (record.h) and the allocator (allocating.c), through the table `above` (state.h), in
-   which the stream has the functions of higher layers; in the thread with the fault, perhaps in a signal handler that
-   has interrupted the allocator. halt_on_death and halt_is_first_crash by the program (interface.c, by hooks.h), in any
-   thread. Lock: the caller has none of the recorder's, but what a handler has interrupted may have the allocator's.
-   Nothing here is guarded by one: all state is atomic. Nothing is allocated; but the program's callbacks run at the
-   end, and these may do anything. */
+   Called: halt_at by record.h and by allocating.c, through the table `above` (state.h), in which the stream has the
+   functions of higher layers; in the thread with the fault, perhaps in a signal handler that has interrupted the
+   allocator. halt_on_death and halt_is_first_crash by the program (interface.c, by hooks.h), in any thread.
+   Lock: the caller has none of the recorder's, but what a handler has interrupted may have the allocator's. All state
+   here is atomic. What begins and ends the recording takes the allocator's and the stream's (process.h), or if it is
+   preloaded the loader's too (plain.h). Nothing is allocated; but the program's callbacks run at the end, and these may
+   do anything. */
 #ifndef ASANCOL_HALT_H
 #define ASANCOL_HALT_H
 

@@ -25,7 +25,7 @@ static uintptr_t start_of(const struct dl_phdr_info *module)
     return 0;
 }
 
-/* The first module is the program. */
+/* Visits the first module, the program, with the loader's lock. */
 static int look_for_recorder(struct dl_phdr_info *module, size_t size, void *has_recorder)
 {
     struct note note;

@@ -3,8 +3,9 @@
 
    Called: preload_choice_is_own by start.c and first_call.c, and for the first time perhaps by way_of, while there is
    one thread; way_of by the first call of each name (exports.c), in any thread, also in a signal handler; the others by
-   plain.c. Lock: way_of, if the recorder steps aside, and preload_choice_find_behind take the loader's for a moment;
-   the rest takes none. Nothing is allocated. */
+   plain.c, as plain_begin and plain_instead_of are (plain.h). Lock: the first preload_choice_is_own, way_of, if the
+   recorder steps aside, and preload_choice_find_behind take the loader's for a moment; the rest takes none. Nothing is
+   allocated. */
 #ifndef ASANCOL_PRELOAD_CHOICE_H
 #define ASANCOL_PRELOAD_CHOICE_H
 

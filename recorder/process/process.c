@@ -1,5 +1,6 @@
 /* `process` has the settings, and the state before a fork. Whatever starts, halts, forks or ends a recording comes
-   here, and continues to the stream, the allocator and the hub. */
+   here, and continues to the stream, the allocator and the hub. `begin`, `begin_full` and `be_idle` are called with the
+   allocator's lock, and without the stream's. */
 #define _GNU_SOURCE
 #include "process/process.h"
 
@@ -47,14 +48,14 @@ static AS_TABLE char trace_name[PATH_MAX]; /* that the pattern gives this proces
    that sets it to false. Until then blocks have redzones and call sites, and nothing else of the recorder is there. */
 static _Atomic bool is_waiting;
 
-bool recorder_waits(void)
+static bool waits(void)
 {
     return atomic_load(&is_waiting);
 }
 
 bool recorder_waits_for_checks(void)
 {
-    return recorder_waits() && process.settings.halt != HALT_AND_RECORD;
+    return waits() && process.settings.halt != HALT_AND_RECORD;
 }
 
 const struct settings *recorder_settings(void)
@@ -74,15 +75,15 @@ void recorder_say_who(void)
         orphan_say(NULL);
 }
 
-/* The recorder stands after the program's own objects, so this constructor comes after theirs. */
+/* The recorder stands after the program's own objects, so this constructor comes after theirs, in the first thread. */
 __attribute__((constructor)) static void note_main(void)
 {
     self_note_main();
     side_note_main();
 }
 
-/* At the end of a child of vfork, which is not its parent's end. The frames that it leaves lie on its parent's stack.
-   */
+/* At the end or an exec of a child of vfork, which is not its parent's end. The frames that it leaves lie on its
+   parent's stack. */
 static void leave_vfork(void)
 {
     stack_frames_left((uintptr_t)__builtin_frame_address(0));
@@ -163,7 +164,7 @@ static bool begin(uint64_t most_held)
 /* Nothing is recorded from now on. If the process is not to end at a fault either, the shadow need not show one. */
 static void be_idle(void)
 {
-    if (!recorder_halts() && !recorder_waits()) {
+    if (!recorder_halts() && !waits()) {
         heap_set_bound(0);
         heap_paint(false);
         library_leave_unchecked();
@@ -192,8 +193,8 @@ void recorder_start(void)
     heap_lock();
     process.begins_late = wanted && (halt == HALT_AND_RECORD || IS_PRELOADED);
     atomic_store(&is_waiting, wanted && IS_PRELOADED);
-    atomic_store(&halt_is_on, halt != HALT_NEVER || recorder_waits());
-    if (recorder_waits() && process.settings.with_side)
+    atomic_store(&halt_is_on, halt != HALT_NEVER || waits());
+    if (waits() && process.settings.with_side)
         heap_keep_call_sites();
     if (!wanted || process.begins_late || !begin(UINT64_MAX)) {
         state_forget();
@@ -233,7 +234,7 @@ bool recorder_end_waiting(void)
     struct disturbance before;
     undisturbed_begin(&before);
     heap_lock();
-    bool has_waited = recorder_waits(), has_begun = false;
+    bool has_waited = waits(), has_begun = false;
     if (has_waited) {
         atomic_store(&halt_is_on, recorder_halts());
         has_begun = recorder_is_own_process() && begin(UINT64_MAX);

@@ -1,15 +1,18 @@
 /* What happens to the stream when the process starts, forks, and ends. The program's fork, exec and exit come here, and
    the settings are kept here.
 
-   Called: recorder_start and recorder_watch_forks by start.c, in the thread that starts the recorder; what begins a
-   recording later by preload_wait.c, halt.c and compiled code, in any thread, perhaps in a signal handler;
-   recorder_finish, recorder_exit and recorder_before_exec by the program's calls, recorder_finish_in_handler by
-   signals.c in a handler; the handlers of a fork by the C library; and the questions by anybody. Lock: the caller has
-   none of the recorder's, but a handler may have interrupted the allocator: then no recording begins. What begins a
-   recording takes the allocator's and then the stream's (README.md has the order), what ends one the stream's, and
-   recorder_before_exec keeps the allocator's; before these an exit, an exec and a fork take the loader's for a moment,
-   but not in a handler that has interrupted the allocator.
-   A question takes none. Nothing is allocated. */
+   Called: recorder_start and recorder_watch_forks by start.c, once, in the thread that starts the recorder, never in a
+   handler. All the others in any thread, also in a signal handler: to begin late, recorder_begin_late by halt.c,
+   recorder_end_waiting by preload_wait.c, recorder_go_full by callbacks.c; to end, recorder_exit by start.c and
+   hooks.c, recorder_finish by halt.c and root.c, recorder_finish_in_handler by the handler in signals.c alone; around
+   an exec, recorder_before_exec by exec_notice.c and recorder_exec_failed by exits.c. recorder_say_child by places.c
+   (`above`), recorder_say_who by preload_wait.c. The rest are questions, of any file. The C library calls the handlers
+   of a fork.
+   Lock: the caller has none of the recorder's, except that recorder_say_child and the questions take none, and any may
+   be held. To begin takes the allocator's and then the stream's (README.md has the order), but not if a handler has
+   interrupted the allocator. To end takes the stream's, and leaves the allocator first if that was interrupted.
+   recorder_before_exec keeps the allocator's, and a fork both. Before these, an exit, an exec and a fork take the
+   loader's for a moment, but not in a handler that has interrupted the allocator. Nothing is allocated. */
 #ifndef ASANCOL_PROCESS_H
 #define ASANCOL_PROCESS_H
 
@@ -23,19 +26,17 @@ struct settings;
 void recorder_start(void);
 /* Forks of the process are seen from now on. */
 void recorder_watch_forks(void);
-/* Says of a child that it is not recorded, which no fork has announced. */
+/* Says of a child that it is not recorded, which no fork has announced: at its first record. */
 void recorder_say_child(void);
 /* Whether ASANCOL_HALT=2 has put off the recording until the first fault. */
 bool recorder_begins_late(void);
 /* Begins a recording that was put off. False: it can't be, and a line said why. */
 bool recorder_begin_late(void);
-/* Whether this is preloaded and records nothing yet. */
-bool recorder_waits(void);
-/* Whether checks end that wait; else a fault alone does. */
+/* Whether this is preloaded and waits for checks, with which it begins to record. */
 bool recorder_waits_for_checks(void);
 /* Begins the recording, if it waits: else, or if it can't begin, it answers false, and a line has said why it can't. */
 bool recorder_end_waiting(void);
-/* Says to a hub why it will not see this process, if it will not. */
+/* Says to a hub why it will not see this process, if it will not: at the start, or with the first check. */
 void recorder_say_who(void);
 /* What the settings are; zeros before the start. */
 const struct settings *recorder_settings(void);

@@ -57,7 +57,8 @@ static int ask_for_status(int status)
     return length == 0 ? NOT_SEEN : STATUS_STAYS;
 }
 
-int root_end(int status)
+/* Asks the run, once. It answers as root_end_at_exit. */
+static int end_once(int status)
 {
     if (!is_root() || atomic_exchange(&has_asked, true))
         return STATUS_STAYS;
@@ -73,7 +74,7 @@ int root_end(int status)
 
 int root_end_by_signal(int number)
 {
-    int ends_with = root_end(number);
+    int ends_with = end_once(number);
     return ends_with != STATUS_STAYS ? ends_with : atomic_load(&answered);
 }
 
@@ -88,12 +89,12 @@ int root_end_at_exit(int status)
 {
     struct disturbance before;
     if (!is_root() || !has_other_threads() || heap_is_entered())
-        return root_end(status);
+        return end_once(status);
     recorder_finish(FINISH_CLOSED); /* else it would go on until they are gone */
     undisturbed_begin(&before);
     heap_lock();
     bool is_stopped = world_stop() == NULL;
-    int ends_with = root_end(status);
+    int ends_with = end_once(status);
     if (is_stopped)
         world_go_on();
     heap_unlock();

@@ -1,8 +1,8 @@
 /* Stacks on which the handlers of signals run.
 
-   Called: signal_stack_of_first by signals.c when a recording begins, in the thread that begins it; the others by
-   threads.c, in the thread that the stack is for. Lock: none: the list of stacks left is atomic. Memory comes from the
-   system alone. */
+   Called: signal_stack_of_first by signals.c when a recording begins, in the thread that begins it, perhaps in a
+   handler; the others by threads.c, in the thread that the stack is for, not in a handler. Lock: none: the stack left
+   is atomic. Memory comes from the system alone. */
 #ifndef ASANCOL_SIGNAL_STACK_H
 #define ASANCOL_SIGNAL_STACK_H
 

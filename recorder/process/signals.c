@@ -1,5 +1,6 @@
-/* Each signal has one of three actions: the recorder's, in place of the default; the recorder's before the program's
-   handler of a fault; or the program's. sigaction hides the recorder's. */
+/* Each signal has one of three actions: the recorder's (on_ending), in place of the default; the recorder's before the
+   program's handler of a fault (before_handler, which asks handler_to_come); or the program's. sigaction hides the
+   recorder's. */
 #define _GNU_SOURCE
 #include "process/signals.h"
 
@@ -155,8 +156,8 @@ static bool is_inside(int number, const siginfo_t *info, const struct met *met)
            && own_code_has(met->registers.instruction, met->registers.frame);
 }
 
-/* No lock is taken, since this thread may have it. Noting the stack may cause the same fault again: all else
-   is noted by then. */
+/* No lock is waited for without an end, since this thread may have it. Noting the stack may cause the same fault again:
+   all else is noted by then. */
 static void note_inside(int number, const struct met *met)
 {
     static _Atomic bool is_noted;

@@ -1,10 +1,10 @@
 /* Signals that end the process, handled.
 
-   Called: signals_handle by start.c, or preload_wait.c when a preloaded recorder begins; signals_set_action and
-   signals_note_abort by the program's calls, in any thread, also in a handler; signals_abort by halt.c. The handlers
-   are called by the kernel, in any thread, whatever it does just now. Lock: the callers have none; the handlers take
-   the stream's to end it, except if the recorder's own code has met the fault: this thread may have it. Nothing is
-   allocated. */
+   Called: signals_handle by start.c, or preload_wait.c when a preloaded recorder begins; signals_set_action by
+   handlers.c and signals_note_abort by exits.c (hooks.def), signals_abort by halt.c: these in any thread, also in a
+   handler. The kernel calls the handlers, on_ending and before_handler, in any thread, whatever it does just now.
+   Lock: the callers have none; on_ending takes the stream's to end it. If the recorder's own code has met the fault,
+   this thread may have any lock: then the stream's is at most waited for a while. Nothing is allocated. */
 #ifndef ASANCOL_SIGNALS_H
 #define ASANCOL_SIGNALS_H
 

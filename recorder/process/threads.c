@@ -350,6 +350,7 @@ static pthread_key_t at_end;
 static _Atomic bool has_key;
 _Atomic bool threads_started;
 
+/* The C library calls it at the end of a thread, as the destructor of a key. */
 static void end_thread(void *unused)
 {
     (void)unused;

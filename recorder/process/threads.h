@@ -1,12 +1,15 @@
 /* The stacks of threads: their shadow, as frames are left and stacks change hands.
 
-   Called: by the program's calls (by hooks.def; stack_frames_left also by process.c), in the thread that the stack is
-   of, also in a signal handler; and stack_has_frame and stack_is_own_frame by the stream, through `above` (state.h), in
-   the thread with the fault. threads_visit_waiting by roots.c while all other threads stand still;
-   thread_function_behind by plain.c. The C library calls what begins and ends a thread, in that thread. Of the C
-   library's functions that are replaced here, the jumps and the throws may come in a handler; pthread_create and
-   thrd_create may not. Lock: none: a thread's data are its own, and tables that threads share are atomic; but each
-   replaced function takes the loader's for a moment at its first call (library_next). Nothing is allocated. */
+   Called: in the thread that the stack is of, also in a signal handler: stack_frames_left by variables.c before a call
+   that does not return, by process.c in a child of vfork, and here by jumps and throws; stack_vforks by exits.c;
+   stack_switches and stack_begins by spaces.c; those of fibers by interface.c (these all by hooks.def); stack_has_frame
+   by record.c and stack_is_own_frame by heap/entering.c (`above`). threads_visit_waiting by roots.c, while all other
+   threads stand still. Not in a handler: thread_function_behind by plain.c, for dlsym; and what begins and ends a
+   thread, which the C library calls in that thread. The program calls the functions of the C library's that are
+   replaced here: the jumps and the throws may come in a handler; pthread_create and thrd_create may not.
+   Lock: none: a thread's data are its own, and tables that threads share are atomic. But each replaced function takes
+   the loader's for a moment at its first call (library_next), and end_thread, or a jump out of the allocator, the
+   allocator's. Nothing is allocated. */
 #ifndef ASANCOL_THREADS_H
 #define ASANCOL_THREADS_H
 

@@ -1,10 +1,10 @@
 /* What of the process was not checked: code that asancol-cc did not compile, and blocks of other allocators.
 
-   Called: unchecked_start by start.c, once, while there is one thread. unchecked_note_malloc by the program's dlopen
-   (by hooks.def), in the thread that opens the library, not in a handler, with no lock of the recorder's: it asks the
-   loader. unchecked_list and unchecked_state by the stream (modules.c), through the table `above` (state.h), with the
-   lock of the stream, or as a stream begins with the allocator's, while no other thread is in the stream: in any
-   thread, also in a signal handler. Nothing is allocated. */
+   Called: unchecked_start by start.c, once, while there is one thread, and unchecked_note_malloc by calls/modules.c
+   (hooks.def), in the thread that opens a library: both not in a handler, with no lock of the recorder's, since they
+   take the loader's. unchecked_list and unchecked_state by stream/modules.c (`above`), with the lock of the stream, or
+   as a stream begins with the allocator's, while no other thread is in the stream: in any thread, also in a signal
+   handler; they take none. Nothing is allocated. */
 #ifndef ASANCOL_UNCHECKED_H
 #define ASANCOL_UNCHECKED_H
 

@@ -1,8 +1,9 @@
 /* All other threads of the process, stopped for a while. Each says what it had in its registers.
 
    Called: world_stop and world_go_on by leaks.c, and by root.c at an exit, the others by roots.c; in the thread that
-   looks for leaks or exits, which has the allocator's lock, for leaks the loader's too, and is undisturbed
-   (base/disturbance.h). The stopped threads wait in a handler of world.c, which touches no thread-local memory. */
+   looks for leaks or exits, maybe in a handler, which has the allocator's lock, for leaks the loader's too, and is
+   undisturbed (base/disturbance.h). No lock is taken. The stopped threads wait in on_stop, the handler of the signal,
+   which may have interrupted anything, and touches no thread-local memory. */
 #ifndef ASANCOL_WORLD_H
 #define ASANCOL_WORLD_H
 
