@@ -2,7 +2,8 @@
    And a block is known by the operator that has allocated it: another family of functions must not free it.
 
    Called: by the program, in any thread, also in a signal handler as far as a program may allocate there. Lock: none is
-   taken here; the malloc or free that the operator calls takes the allocator's. */
+   held; the malloc or free that the operator calls takes the allocator's, and the first operator of a module the
+   loader's for a moment (dladdr). */
 #define _GNU_SOURCE
 #include <dlfcn.h>
 #include <stdatomic.h>

@@ -1,7 +1,7 @@
 /* The words of the rows of calls.def, and what a row becomes: a stub and a check. Formats have theirs in words.h.
 
-   Called: by the program's calls, in any thread, also in a signal handler; no lock of the recorder's is held
-   (calls.h). */
+   Called: a check by its stub, in the program's call, in any thread, and in a signal handler where the program may make
+   that call there; no lock of the recorder's is held (calls.h). */
 #ifndef ASANCOL_ROWS_H
 #define ASANCOL_ROWS_H
 

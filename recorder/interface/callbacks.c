@@ -12,7 +12,8 @@ const char asancol_checks = 1;
 #endif
 
 #ifdef IN_SHARED_OBJECT
-/* Before the constructors of the object, and those of the program if it is loaded with that. */
+/* Before the constructors of the object, and those of the program if it is loaded with that. The loader calls it, in
+   the thread that loads the object, with its lock. */
 __attribute__((constructor(101))) static void say_that_checks_are_here(void)
 {
     note_found_checks();
@@ -137,7 +138,7 @@ CALLBACK void __asan_version_mismatch_check_v8(void)
 {
 }
 
-/* Round the initialisers of a file in C++. */
+/* Round the initialisers of a file in C++, by the constructors of a module (init_order.h). */
 
 CALLBACK void __asan_before_dynamic_init(const char *module)
 {

@@ -1,7 +1,8 @@
 /* The table that shared objects find in the program, `asancol_hooks`.
 
-   Called: modules_changed by the program's dlopen, not in a signal handler, and finish_at_exit by its _exit, also in
-   one; in any thread, with no lock of the recorder's: both take the loader's and then the stream's for a moment. */
+   Called: by the table, in any thread, with no lock of the recorder's: modules_changed by calls/modules.c, not in a
+   signal handler; finish_at_exit by exits.c, also in one. Both take the loader's and then the stream's for a moment;
+   finish_at_exit also the allocator's (root.h). */
 #define _GNU_SOURCE
 #include "interface/hooks.h"
 

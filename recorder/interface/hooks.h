@@ -1,9 +1,10 @@
 /* How code that is linked into programs and into shared objects reaches the recorder: by the table of the program,
    which a shared object finds if there is one (hooks.def).
 
-   Called: by stubs of calls (calls), by callbacks and by the interface, in any thread, also in a signal handler, and
-   where there is no recorder. Lock: none is taken here, and the caller has none of the recorder's; the functions of the
-   table have their own rules. */
+   Called: by the checks of calls (note_ended by rows.h, note_operator and its end by new.c), by callbacks
+   (note_each_access) and by the interface (is_first_crash), in any thread, also in a signal handler, and where there is
+   no recorder. Lock: none is taken here, and the caller has none of the recorder's; the functions of the table have
+   their own rules. A record may take the allocator's and the stream's, where its segment is full (places.c). */
 #ifndef ASANCOL_HOOKS_H
 #define ASANCOL_HOOKS_H
 
@@ -52,7 +53,6 @@ struct recorder_hooks {
 #define asancol_hooks (*HOOK_PAGE->hooks)
 #define TELL_OFTEN TELL
 #define ASK_OFTEN ASK
-#define STREAM_OF_PROGRAM asancol_hooks.stream
 
 #else
 
@@ -67,7 +67,6 @@ extern const struct recorder_hooks asancol_hooks;
     {                                                                                                                  \
         return function arguments;                                                                                     \
     }
-#define STREAM_OF_PROGRAM (&stream_page.stream)
 
 #endif
 
@@ -87,12 +86,6 @@ extern const struct recorder_hooks asancol_hooks;
 #undef ASK
 #undef TELL_OFTEN
 #undef ASK_OFTEN
-
-/* Whether an access would be recorded now. */
-static inline bool is_recorded(void)
-{
-    return HAS_HOOKS && stream_may_record(STREAM_OF_PROGRAM);
-}
 
 /* Always: the frame of who calls this is that of the operator. */
 static inline __attribute__((always_inline)) void note_operator(struct said *before, uintptr_t caller, struct use use)

@@ -1,8 +1,9 @@
 /* Globals that two modules have defined, against the rule of one definition. As AddressSanitizer's
    detect_odr_violation.
 
-   Called: by the constructors and destructors of a module (variables.c, by hooks.def), in the thread that loads or
-   unloads it, never in a signal handler. Lock: the loader's, or there is one thread: so nothing is guarded here. */
+   Called: by the constructors and destructors of a module (variables.c and registering.c, by hooks.def), in the thread
+   that loads or unloads it, never in a signal handler. Lock: the loader's, or there is one thread: so nothing is
+   guarded here. dlsym takes it once more, as a thread may. */
 #ifndef ASANCOL_ODR_H
 #define ASANCOL_ODR_H
 

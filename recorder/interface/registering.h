@@ -1,8 +1,9 @@
 /* When the globals of a module are registered, and for how long.
 
    Called: asancol_register_early by first_call.c, in the first call into a module; __asan_register_globals by a
-   module's constructors; image_of_module by variables.c at its destructors. All in the thread that loads or unloads the
-   module, with the loader's lock, or before there are threads; never in a signal handler. No lock is taken here. */
+   module's constructors; image_of_module by variables.c at its destructors, of which forget_all (registering.c) is the
+   last. All in the thread that loads or unloads the module, with the loader's lock, or before there are threads; never
+   in a signal handler. No lock is taken here. */
 #ifndef ASANCOL_REGISTERING_H
 #define ASANCOL_REGISTERING_H
 

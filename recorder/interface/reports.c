@@ -1,6 +1,6 @@
 /* A report is told once for each place, as AddressSanitizer does if it goes on. One thread tells at a time: `telling`
-   is its lock, which guards `report`, its texts and `places`. No thread waits for it, since a callback may do
-   anything: a report that comes meanwhile is dropped. */
+   is its lock, which guards `report`, its texts and `places`: `tell` takes it, and what finds a class or puts a text
+   runs with it. No thread waits for it, since a callback may do anything: a report that comes meanwhile is dropped. */
 #define _GNU_SOURCE
 #include "interface/reports.h"
 

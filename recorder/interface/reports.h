@@ -1,13 +1,14 @@
 /* Reports, as the process is told of them while it runs: by the program's __asan_on_error and by its callback, which
    may ask for the report meanwhile. The checker's own reports come later, and from elsewhere.
 
-   Called: reports_tell by the stream, and reports_tell_waiting by the allocator once it is left, both through the table
-   `above` (state.h), in the thread with the fault, perhaps in a signal handler that has interrupted the allocator.
-   reports_call_on_error by interface.c at the start; the table `reports` by the program (interface.c), in any thread.
+   Called: reports_tell by the stream and by halt.c, and reports_tell_waiting by allocating.c once the allocator is
+   left, both through the table `above` (state.h), in the thread with the fault, perhaps in a signal handler that has
+   interrupted the allocator. reports_call_on_error by interface.c at the start; the table `reports` by the program
+   (interface.c), in any thread.
    Lock: a report that is found in the allocator waits until its thread has left it, since the program's callbacks may
    do anything; apart from that the caller has none of the recorder's. One thread tells at a time, and others do not
-   wait (reports.c). Where the process has its texts is set and used without a lock, as are the program's own
-   variables. */
+   wait (reports.c). Where the process has its texts is set and used without a lock, as are the program's own variables.
+   */
 #ifndef ASANCOL_REPORTS_H
 #define ASANCOL_REPORTS_H
 
