@@ -1,7 +1,8 @@
 /* The trace format, version 2: the one place of its numbers on the recorder's side. docs/FORMAT.md says what they mean.
 
-   Called: the few functions by the recorder, in any thread, also in a signal handler, and by asancol-run in its one
-   thread; no lock: they only compute. Who may write which field of the side memory stands in stream/side.h. */
+   Called: the few functions by the recorder, span_bytes by heap/ and record_length by stream/, in any thread, also in a
+   signal handler, and is_side_header by run/side.c in the one thread of asancol-run; no lock: they only compute. Who
+   may write which field of the side memory stands in stream/side.h. */
 #ifndef ASANCOL_FORMAT_H
 #define ASANCOL_FORMAT_H
 

@@ -1,7 +1,7 @@
 /* The hash of Fowler, Noll and Vo, FNV-1a, of 32 bits.
 
-   Called: by the recorder (hub_word.c), in any thread, also in a signal handler, by the wrapper and by asancol-run; no
-   lock: it only reads what it is given. */
+   Called: by the recorder (hub_word.c, and orphan.c by inherited.h), in any thread, also in a signal handler, by the
+   wrapper (checked_names.c, compiling.c) and by asancol-run; no lock: it only reads what it is given. */
 #ifndef ASANCOL_HASH_H
 #define ASANCOL_HASH_H
 

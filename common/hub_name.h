@@ -1,8 +1,8 @@
 /* What a hub is called: the name of its socket, and the ends of the marks that processes leave beside that. The
    recorder asks at any time: nothing of the C library is called.
 
-   Called: by the recorder, in any thread, also in a signal handler, and by asancol-run in its one thread; no lock: only
-   the caller's room is written. */
+   Called: by the recorder, hub_socket by asking.c and output.c, hub_ask_name by asking.c, in any thread, also in a
+   signal handler; and by asancol-run in its one thread (hub.c, outer.c); no lock: only the caller's room is written. */
 #ifndef ASANCOL_HUB_NAME_H
 #define ASANCOL_HUB_NAME_H
 

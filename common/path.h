@@ -1,6 +1,7 @@
 /* Where programs are.
 
-   Called: by asancol-run and the wrapper, in their one thread; no lock. They allocate. */
+   Called: path_is_program by run/names.c, path_in by that and run/asan.c, path_of_program by these, run/keep.c and
+   wrapper/command.c; in the one thread of asancol-run or of the wrapper; no lock. They allocate. */
 #ifndef ASANCOL_PATH_H
 #define ASANCOL_PATH_H
 

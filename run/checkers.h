@@ -1,8 +1,9 @@
 /* Each recorded process has a checker: an asancol whose standard input is the connection, or has one with others
    (shared.h).
 
-   Called: by loop.c for what comes, shared.c, held.c and marks.c, and by asancol-run.c at the start and the end, in the
-   one thread of asancol-run; no lock. */
+   Called: checkers_begin by asancol-run.c; checker_can_wait by held.c; checkers_program, checkers_words and
+   checker_take_text by shared.c; the rest by loop.c, checker_sum_up also by asancol-run.c, checker_give_up also by
+   marks.c; in the one thread of asancol-run; no lock. */
 #ifndef ASANCOL_RUN_CHECKERS_H
 #define ASANCOL_RUN_CHECKERS_H
 

@@ -1,8 +1,8 @@
 /* The programs that asancol-run starts for itself, by their numbers: all other children are the command's.
 
-   Called: by asancol-run.c at the start, by what starts a program (checkers.c, shared.c, keep.c, report.c), by loop.c
-   when a child has ended, and child_is_ours by descendants.c, children_hide_errors by serving.c, in the one thread of
-   asancol-run; no lock. A child runs in our memory up to its exec (vfork), while this thread waits. */
+   Called: children_begin by asancol-run.c; child_start by checkers.c, shared.c, keep.c and report.c; child_take by
+   loop.c; child_is_ours by descendants.c; children_hide_errors by serving.c; in the one thread of asancol-run; no lock.
+   `become` and `give` run in the child, in our memory up to its exec (vfork), while this thread waits. */
 #ifndef ASANCOL_RUN_CHILDREN_H
 #define ASANCOL_RUN_CHILDREN_H
 

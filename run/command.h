@@ -1,7 +1,7 @@
 /* The command: it is a child of asancol-run, in its process group.
 
-   Called: by asancol-run.c, once, and command_settings by asking.c after that; in the one thread of asancol-run; no
-   lock. The child runs in our memory up to its exec (vfork), while this thread waits. */
+   Called: command_start by asancol-run.c, once, and command_settings by asking.c after that; in the one thread of
+   asancol-run; no lock. `become` runs in the child, in our memory up to its exec (vfork), while this thread waits. */
 #ifndef ASANCOL_RUN_COMMAND_H
 #define ASANCOL_RUN_COMMAND_H
 

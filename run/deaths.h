@@ -1,6 +1,8 @@
 /* How processes have ended, also those that said nothing themselves.
 
-   Called: by verdict.c, marks.c, serving.c, asancol-run.c and loop.c, in the one thread of asancol-run; no lock. */
+   Called: death_note by loop.c, death_note_of_parent by marks.c, death_note_ending by serving.c, death_was_awaited by
+   asancol-run.c; the rest by verdict.c, death_of also by marks.c and serving.c; in the one thread of asancol-run; no
+   lock. */
 #ifndef ASANCOL_RUN_DEATHS_H
 #define ASANCOL_RUN_DEATHS_H
 

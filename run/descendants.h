@@ -1,6 +1,7 @@
 /* What the command has started: of its descendants, each whose parent ends becomes a child of asancol-run.
 
-   Called: by asancol-run.c, loop.c and peers.c, in the one thread of asancol-run; no lock. */
+   Called: descendants_left and descendants_signal by loop.c, descendants_kinship and descendants_have_user by peers.c,
+   the rest by asancol-run.c before the command starts; in the one thread of asancol-run; no lock. */
 #ifndef ASANCOL_RUN_DESCENDANTS_H
 #define ASANCOL_RUN_DESCENDANTS_H
 

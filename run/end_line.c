@@ -50,7 +50,7 @@ static bool take_fate(const char **at, struct end_line *end)
     return true;
 }
 
-bool end_line_read(const char *line, struct end_line *end)
+static bool read_line(const char *line, struct end_line *end)
 {
     *end = (struct end_line){0};
     if (!skip(&line, "p0 end ") || !take_fate(&line, end))
@@ -72,7 +72,7 @@ bool end_line_of(const char *text, size_t length, struct end_line *end)
     memcpy(tail, text + length - 1 - kept, kept);
     tail[kept] = 0;
     const char *line = strrchr(tail, '\n');
-    return end_line_read(line != NULL ? line + 1 : tail, end);
+    return read_line(line != NULL ? line + 1 : tail, end);
 }
 
 bool end_line_find(int verdicts, struct end_line *end)

@@ -1,9 +1,9 @@
 /* The private folder of a run, in which its socket lies, and what processes leave there. It is known by a descriptor
    that is kept since it was made: whoever may write to the folder round it can put another one under its name.
 
-   Called: by hub.c when the sockets are made, by loop.c, marks.c and nested.c for its contents, and by asancol-run.c at
-   the end, in the one thread of asancol-run; no lock. A lock of the file system (flock) says to others that the run
-   lives. */
+   Called: folder_entries by loop.c, marks.c and nested.c, folder_lost by loop.c, folder_remove by asancol-run.c at the
+   end, the rest by hub.c when the sockets are made; in the one thread of asancol-run; no lock. A lock of the file
+   system (flock) says to others that the run lives. */
 #ifndef ASANCOL_RUN_FOLDER_H
 #define ASANCOL_RUN_FOLDER_H
 

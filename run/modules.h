@@ -2,7 +2,8 @@
    have lines of what a test builds, runs and removes, or builds anew. A file that several processes run is held once,
    as long as one of them may have a report.
 
-   Called: by loop.c, report.c, checkers.c and side.c, in the one thread of asancol-run; no lock. */
+   Called: modules_allow and modules_held by loop.c, modules_take by side.c, modules_find and modules_copy by report.c,
+   modules_let_go by checkers.c; in the one thread of asancol-run; no lock. */
 #ifndef ASANCOL_RUN_MODULES_H
 #define ASANCOL_RUN_MODULES_H
 

@@ -1,7 +1,7 @@
 /* Names of files with %p, %q{VAR} and %% in them, and where programs are.
 
-   Called: by options.c, checkers.c, command.c, preload.c, report.c and say.c, in the one thread of asancol-run; no
-   lock. */
+   Called: name_expanded by options.c, name_descriptor by that and say.c, find_own_program by checkers.c, command.c and
+   report.c, find_recorders_file by preload.c; in the one thread of asancol-run; no lock. */
 #ifndef ASANCOL_RUN_NAMES_H
 #define ASANCOL_RUN_NAMES_H
 

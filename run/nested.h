@@ -2,7 +2,8 @@
    lines nested.NUMBER.TIME.jsonl, and an empty file of that name with .recorded if it has recorded something. When it
    starts its command it leaves one with .begun: so the outer one knows if it was ended before it had a result.
 
-   Called: by asancol-run.c at the start and the end, and by report.c, in the one thread of asancol-run; no lock. */
+   Called: by asancol-run.c at the start and the end, nested_result also by report.c; in the one thread of asancol-run;
+   no lock. */
 #ifndef ASANCOL_RUN_NESTED_H
 #define ASANCOL_RUN_NESTED_H
 

@@ -1,7 +1,7 @@
 /* What a segment has come to; or all segments of a process together.
 
-   Called: by verdict.c, segments.c, kin.c and marks.c, which judge, and read by whoever prints; in the one thread of
-   asancol-run; no lock. */
+   Called: outcome_set by verdict.c, segments.c, kin.c and marks.c, which judge; the others by these, and by whoever
+   prints; in the one thread of asancol-run; no lock. */
 #ifndef ASANCOL_RUN_OUTCOME_H
 #define ASANCOL_RUN_OUTCOME_H
 

@@ -1,6 +1,7 @@
 /* The run round this one, as nested.h has it.
 
-   Called: by nested.c and options.c, at the start, in the one thread of asancol-run; no lock. */
+   Called: outer_hub by nested.c, outer_options by options.c, at the start; in the one thread of asancol-run; no lock.
+   */
 #ifndef ASANCOL_RUN_OUTER_H
 #define ASANCOL_RUN_OUTER_H
 

@@ -2,7 +2,8 @@
    anybody's to use: by that, processes of our user and of root are let in, and what the command has started, whoever
    that is by now.
 
-   Called: by loop.c and asking.c, in the one thread of asancol-run; no lock. */
+   Called: peer_judge and peers_say_rest by loop.c, peer_judge_asker by asking.c, peer_say_refused by both; in the one
+   thread of asancol-run; no lock. */
 #ifndef ASANCOL_RUN_PEERS_H
 #define ASANCOL_RUN_PEERS_H
 

@@ -1,7 +1,8 @@
 /* Texts of strangers, as they are printed: what controls a terminal, turns the direction of text, ends a line or is no
    UTF-8 is escaped. asancol-report escapes the same in the same way (`printable` of its words.py).
 
-   Called: by json.c, keep.c and say.c, in the one thread of asancol-run; no lock. */
+   Called: printable by json.c, keep.c and say.c, character_length also by json.c, printable_length by keep.c; in the
+   one thread of asancol-run; no lock. */
 #ifndef ASANCOL_RUN_PRINTABLE_H
 #define ASANCOL_RUN_PRINTABLE_H
 

@@ -1,8 +1,9 @@
 /* The recorded processes of the run, in the order in which they connected. Each has a segment for each connection, or
    file, by which its recording came: segments.h joins them, and says what the whole process came to.
 
-   Called: by loop.c and marks.c, which add, and by whoever judges or prints; in the one thread of asancol-run; no
-   lock. */
+   Called: segment_add and process_set_peer by loop.c and marks.c, process_set_name and what goes by own numbers by
+   marks.c, segment_is_done and segment_name by checkers.c, segment_has_hung_up by held.c and loop.c; the rest by
+   whoever judges or prints; in the one thread of asancol-run; no lock. */
 #ifndef ASANCOL_RUN_PROCESSES_H
 #define ASANCOL_RUN_PROCESSES_H
 

@@ -2,7 +2,9 @@
    It is started when there is something to report, and takes the descriptors of a process with reports as soon as that
    has ended.
 
-   Called: by asancol-run.c, loop.c, checkers.c, kin.c and marks.c, in the one thread of asancol-run; no lock. */
+   Called: report_segment by checkers.c; report_again by that, kin.c, marks.c and asancol-run.c; report_held,
+   report_poll, report_send, report_has_ended, report_is_running and report_interrupt by loop.c; the rest by
+   asancol-run.c, at the start and the end; in the one thread of asancol-run; no lock. */
 #ifndef ASANCOL_RUN_REPORT_H
 #define ASANCOL_RUN_REPORT_H
 

@@ -1,7 +1,9 @@
 /* A process whose recording has reached the limit of events goes on in a further segment: a new connection or file,
    with side memory that says which one it is. All of them are one process in the output.
 
-   Called: by checkers.c, report.c, asancol-run.c, loop.c, kin.c, lines.c and lowered.c, in the one thread of
+   Called: segments_join, segments_take_empty and segments_are_complete by checkers.c, segments_join_file by loop.c,
+   segments_last by kin.c, segments_kept by report.c, segments_process_count by asancol-run.c and loop.c;
+   segments_are_several by checkers.c and report.c, segments_joined by these and by whoever prints; in the one thread of
    asancol-run; no lock. */
 #ifndef ASANCOL_RUN_SEGMENTS_H
 #define ASANCOL_RUN_SEGMENTS_H

@@ -2,7 +2,8 @@
    number that its parent knows. It gets its environment from us, and becomes itself with that. At its end it asks for
    the status of the run, and waits for it.
 
-   Called: by command.c at the start, asking.c, loop.c and asancol-run.c, in the one thread of asancol-run; no lock. */
+   Called: serving_begin by command.c at the start, serving_take by asking.c; the rest by loop.c, serving_is_on and
+   serving_answer also by asancol-run.c; in the one thread of asancol-run; no lock. */
 #ifndef ASANCOL_RUN_SERVING_H
 #define ASANCOL_RUN_SERVING_H
 

@@ -2,7 +2,8 @@
    the same bytes are checked once in a run. Those that differ, and have ended, wait for each other and have one
    asancol. What that does not read to an end is checked again, for each segment by a checker of its own.
 
-   Called: by loop.c, held.c and checkers.c, in the one thread of asancol-run; no lock. */
+   Called: shared_take and shared_add_alone by held.c, shared_open by checkers.c, the rest by loop.c; in the one thread
+   of asancol-run; no lock. */
 #ifndef ASANCOL_RUN_SHARED_H
 #define ASANCOL_RUN_SHARED_H
 

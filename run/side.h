@@ -1,6 +1,8 @@
 /* The side memory of a process: what the recorder says of it beside its trace.
 
-   Called: by checkers.c, verdict.c, processes.c and segments.c, in the one thread of asancol-run; no lock. */
+   Called: side_answer, side_receive, side_map, side_read and side_unmap by checkers.c; side_quarantine by processes.c,
+   side_settings by that and verdict.c, side_progress by that and segments.c, side_entries and side_children by
+   verdict.c; in the one thread of asancol-run; no lock. */
 #ifndef ASANCOL_RUN_SIDE_H
 #define ASANCOL_RUN_SIDE_H
 

@@ -1,7 +1,8 @@
 /* Signals to asancol-run: they are blocked, and read from a descriptor.
 
-   Called: by asancol-run.c and loop.c, in the one thread of asancol-run; no lock. signals_restore also by command.c, in
-   the child of vfork before its exec. There is no handler: what a signal asks for is done when the loop reads it. */
+   Called: signals_open and signals_ignore_writes by asancol-run.c, signals_read by loop.c, signals_end_by by both; in
+   the one thread of asancol-run; no lock. signals_restore by command.c, in the child of vfork before its exec. There is
+   no handler: what a signal asks for is done when the loop reads it. */
 #ifndef ASANCOL_RUN_SIGNALS_H
 #define ASANCOL_RUN_SIGNALS_H
 

@@ -1,6 +1,7 @@
 /* The unchecked code of the processes, as their recorders list it: each name once.
 
-   Called: by asancol-run.c, checkers.c and report.c, in the one thread of asancol-run; no lock. */
+   Called: unchecked_take by checkers.c, unchecked_put by report.c, the rest by asancol-run.c at the end; in the one
+   thread of asancol-run; no lock. */
 #ifndef ASANCOL_RUN_UNCHECKED_H
 #define ASANCOL_RUN_UNCHECKED_H
 

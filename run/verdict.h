@@ -1,6 +1,7 @@
 /* What came of a process: its end line, and whether it was complete.
 
-   Called: by checkers.c, which judges, and by asancol-run.c, held.c, segments.c, marks.c and report.c, in the one
+   Called: verdict_begin by asancol-run.c, verdict_is_at_end by held.c, verdict_blame_limit by segments.c,
+   verdict_is_of_others by marks.c, signal_name by that and report.c; the rest by checkers.c, which judges; in the one
    thread of asancol-run; no lock. */
 #ifndef ASANCOL_RUN_VERDICT_H
 #define ASANCOL_RUN_VERDICT_H

@@ -2,7 +2,8 @@
    it has there is called NAME.asancol, and an object that is compiled for it calls that. So it is not linked without
    the archive, and nothing without checks takes its place.
 
-   Called: by linked.c and running.c, in the one thread of the wrapper; no lock. */
+   Called: checked_names_give by running.c, checked_names_are_given by linked.c, in the one thread of the wrapper; no
+   lock. */
 #ifndef ASANCOL_CHECKED_NAMES_H
 #define ASANCOL_CHECKED_NAMES_H
 

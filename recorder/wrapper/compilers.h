@@ -1,6 +1,7 @@
 /* The compilers that are known, and what each of them is given so that it puts in its checks.
 
-   Called: by asancol-cc.c, loops.c, plugin.c and target.c, in the one thread of the wrapper; no lock. */
+   Called: compiler_of by asancol-cc.c, compiler_say by loops.c, plugin.c and target.c, in the one thread of the
+   wrapper; no lock. */
 #ifndef ASANCOL_COMPILERS_H
 #define ASANCOL_COMPILERS_H
 

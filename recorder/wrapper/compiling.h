@@ -1,6 +1,6 @@
 /* What a compiler is given for what it compiles.
 
-   Called: by running.c and asancol-cc.c, in the one thread of the wrapper; no lock. */
+   Called: compiling_object by asancol-cc.c, the rest by running.c, in the one thread of the wrapper; no lock. */
 #ifndef ASANCOL_COMPILING_H
 #define ASANCOL_COMPILING_H
 

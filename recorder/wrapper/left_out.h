@@ -1,6 +1,7 @@
 /* The caller's arguments that take some of our checks away, and leave others.
 
-   Called: by linked.c, arguments.c, asancol-cc.c and running.c, in the one thread of the wrapper; no lock. */
+   Called: left_out_take by arguments.c and linked.c, left_out_any by linked.c and running.c, left_out_warn by
+   asancol-cc.c, left_out_free by linked.c, in the one thread of the wrapper; no lock. */
 #ifndef ASANCOL_WRAPPER_LEFT_OUT_H
 #define ASANCOL_WRAPPER_LEFT_OUT_H
 

@@ -1,6 +1,7 @@
 /* The files that are given to a link: which of them were compiled by the wrapper.
 
-   Called: by inputs.c, arguments.c, taken.c and archive.c, in the one thread of the wrapper; no lock. */
+   Called: linked_takes and linked_look_at by arguments.c and inputs.c, linked_is_marked_text by inputs.c, linked_origin
+   by archive.c and taken.c, linked_is_library by taken.c, in the one thread of the wrapper; no lock. */
 #ifndef ASANCOL_LINKED_H
 #define ASANCOL_LINKED_H
 

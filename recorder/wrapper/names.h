@@ -1,6 +1,7 @@
 /* Names, each once.
 
-   Called: by arguments.c, inputs.c, own_data.c, running.c and taken.c, in the one thread of the wrapper; no lock. */
+   Called: names_add by arguments.c, inputs.c, running.c and taken.c, names_have by own_data.c, in the one thread of the
+   wrapper; no lock. */
 #ifndef ASANCOL_WRAPPER_NAMES_H
 #define ASANCOL_WRAPPER_NAMES_H
 

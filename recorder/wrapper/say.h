@@ -1,6 +1,7 @@
 /* What the wrapper has to say, on standard error.
 
-   Called: by all files here, in the one thread of the wrapper; no lock. */
+   Called: by any file here, say_as by asancol-cc.c, in the one thread of the wrapper; no lock. no_memory (must.h) is in
+   say.c too. */
 #ifndef ASANCOL_WRAPPER_SAY_H
 #define ASANCOL_WRAPPER_SAY_H
 

@@ -40,7 +40,7 @@ bool view_has_text(struct view view, const char *text)
     return view.size != 0 && memmem(view.bytes, view.size, text, strlen(text)) != NULL;
 }
 
-bool view_is_inside(struct view view, uint64_t offset, uint64_t size)
+static bool is_inside(struct view view, uint64_t offset, uint64_t size)
 {
     return offset <= view.size && size <= view.size - offset;
 }
@@ -62,7 +62,7 @@ size_t view_section_count(struct view view)
         return 0;
     memcpy(&header, view.bytes, sizeof header);
     if (header.e_ident[EI_CLASS] != ELFCLASS64 || header.e_shentsize != sizeof(Elf64_Shdr) || header.e_shoff == 0
-        || !view_is_inside(view, header.e_shoff, sizeof(Elf64_Shdr)))
+        || !is_inside(view, header.e_shoff, sizeof(Elf64_Shdr)))
         return 0;
     /* Where there are too many of them for the header, the first section has their number. */
     uint64_t count = header.e_shnum != 0 ? header.e_shnum : view_section(view, 0).sh_size;
@@ -71,7 +71,7 @@ size_t view_section_count(struct view view)
 
 struct view view_of_section(struct view view, const Elf64_Shdr *section)
 {
-    if (section->sh_type == SHT_NOBITS || !view_is_inside(view, section->sh_offset, section->sh_size))
+    if (section->sh_type == SHT_NOBITS || !is_inside(view, section->sh_offset, section->sh_size))
         return (struct view){NULL, 0};
     return (struct view){view.bytes + section->sh_offset, section->sh_size};
 }

@@ -24,8 +24,6 @@ bool view_has_text(struct view view, const char *text);
 /* Whether bytes are in a section that is read as it is in the file, and not run: texts and names of libraries are in
    such. */
 bool view_has_constant(struct view view, const char *bytes, size_t size);
-/* Whether these bytes lie in it. */
-bool view_is_inside(struct view view, uint64_t offset, uint64_t size);
 /* How many sections it has, as a file of ELF for 64 bits. */
 size_t view_section_count(struct view view);
 /* The header of the section with this number. */
