@@ -3,8 +3,8 @@
 
    Called: asan_options_read and then say, level and hold by settings.c, in the thread that starts the recorder, once,
    not in a handler: they call the program. After that asan_options_check_call by the stream, and asan_options_log by
-   halt.c and halt_report.c, in any thread, also in a signal handler; and asan_options_lines by unchecked.c, with the
-   lock of the stream. Lock: none of its own: nothing is written after the start. Nothing is allocated. */
+   halt_report.c, in any thread, also in a signal handler; and asan_options_lines by unchecked.c, with the lock of the
+   stream. Lock: none of its own: nothing is written after the start. Nothing is allocated. */
 #ifndef ASANCOL_ENVIRONMENT_ASAN_OPTIONS_H
 #define ASANCOL_ENVIRONMENT_ASAN_OPTIONS_H
 

@@ -113,7 +113,8 @@ static inline bool is_first_crash(void)
     return HAS_HOOKS ? asancol_hooks.is_first_crash() : !atomic_exchange(&is_taken, true);
 }
 
-/* Each access is noted here, and not a bad one alone: then mallocs and frees are recorded too. */
+/* Each access is noted here, and not a bad one alone: then mallocs and frees are recorded too. To begin that takes the
+   allocator's lock and the stream's (recorder_go_full). */
 static inline void note_each_access(void)
 {
     static bool is_noted;

@@ -3,8 +3,9 @@
    docs/RECORDER.md says which do something here.
 
    Called: by the program, in any thread, also in a signal handler; interface_start by start.c. Lock: the caller has
-   none of the recorder's, and none is taken here. By the table of hooks.def questions about blocks and words about
-   leaks may take the allocator's; a record of poison or of an access, where a segment is full, that and the stream's.
+   none of the recorder's, and none is taken here. By the table of hooks.def sizes and counts of blocks, ignored blocks,
+   root regions and a search for leaks take the allocator's; a record of poison or of an access, where a segment is
+   full, that and the stream's.
 
    Poison and unpoison are recorded, and questions about them are answered by the shadow. Reports are not there: they
    come from the collector. All are weak: a program has its own callbacks and options, and another sanitizer of the

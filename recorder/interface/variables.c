@@ -2,9 +2,9 @@
    redzones of a frame compiled code writes itself.
 
    Called: for variables and arrays by compiled code, in any thread, also in a signal handler, without a lock; but
-   redzones of fields and counts of elements are recorded, which may take the allocator's and the stream's. For globals
-   by the constructors and destructors of a module, not in a handler, with the loader's lock, or before there are
-   threads. */
+   redzones of fields and counts of elements are recorded, which may take the allocator's and the stream's, as
+   note_checks may (callbacks.h). For globals by the constructors and destructors of a module, not in a handler, with
+   the loader's lock, or before there are threads. */
 #include <string.h>
 
 #include "interface/callbacks.h"

@@ -3,8 +3,8 @@
 
    Called: by the checks of the program's exec (exits.c), posix_spawn and wait (rows.h), by hooks.def, in any thread,
    also in a signal handler and in a child of vfork. Lock: the caller has none. exec_notice_leave takes the loader's for
-   a moment, and then the allocator's, which it keeps up to the exec, or up to recorder_exec_failed if that fails, and
-   the stream's. The others take none. Nothing is allocated. */
+   a moment, and then the stream's with the allocator's, which it keeps up to the exec, or up to recorder_exec_failed if
+   that fails. The others take none. Nothing is allocated. */
 #ifndef ASANCOL_EXEC_NOTICE_H
 #define ASANCOL_EXEC_NOTICE_H
 

@@ -1,7 +1,8 @@
 /* Memory that the program gives to the system, of which nothing is known.
 
-   Called: by the checks of calls (calls/there.c) and exec_notice.c, in any thread, also in a signal handler and in a
-   child of vfork. Lock: none: it looks at the shadow, and asks the system. */
+   Called: given_is_there and given_text_length by calls/there.c (hooks.def), given_is_there and given_text_is_there by
+   exec_notice.c, in any thread, also in a signal handler and in a child of vfork. Lock: none: it looks at the shadow,
+   and asks the system. */
 #ifndef ASANCOL_GIVEN_H
 #define ASANCOL_GIVEN_H
 

@@ -6,7 +6,7 @@
 
    If this is preloaded, the program is plain too, and is looked at as they are.
 
-   The loader's lock is held while slots are looked at (dl_iterate_phdr), from look_at on. It guards the `static`
+   The loader's lock is held in read_library, look_at and what that calls (dl_iterate_phdr). It guards the `static`
    variables here. answer_dlsym and answer_dlvsym take it too, and then the stream's: a plain library's dlsym comes to
    them, in its thread, not in a handler. */
 #define _GNU_SOURCE

@@ -48,7 +48,7 @@ const char *recorder_hub(void);
 bool recorder_go_full(void);
 /* Whether calls that plain libraries make are checked, by its settings. */
 bool recorder_checks_libraries(void);
-/* At an end without handlers, by halt.c; in a child of vfork nothing is ended but its frames. */
+/* At an end without handlers. In a child of vfork nothing is ended but its frames. */
 void recorder_finish(enum finish finish);
 /* At an exit. `is_last`: none of the process's handlers and destructors is still to come. */
 void recorder_exit(bool is_last);

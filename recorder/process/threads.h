@@ -3,7 +3,7 @@
    Called: in the thread that the stack is of, also in a signal handler: stack_frames_left by variables.c before a call
    that does not return, by process.c in a child of vfork, and here by jumps and throws; stack_vforks by exits.c;
    stack_switches and stack_begins by spaces.c; those of fibers by interface.c (these all by hooks.def); stack_has_frame
-   by record.c and stack_is_own_frame by heap/entering.c (`above`). threads_visit_waiting by roots.c, while all other
+   by record.h and stack_is_own_frame by heap/entering.c (`above`). threads_visit_waiting by roots.c, while all other
    threads stand still. Not in a handler: thread_function_behind by plain.c, for dlsym; and what begins and ends a
    thread, which the C library calls in that thread. The program calls the functions of the C library's that are
    replaced here: the jumps and the throws may come in a handler; pthread_create and thrd_create may not.
