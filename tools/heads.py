@@ -6,6 +6,9 @@ none. If it begins with "as NAME.h says", that header says the rest.
 
 Silence about handlers allows them. The objects that recorder/tests/sources.py lists call more than a handler may, so
 their heads say which of their functions a handler calls.
+
+"one_name, other_name by FILE.c and FILE.h" is held against the code: each file has one of the names, and each name is
+in one of the files, by itself or as a table of functions calls it.
 """
 
 import ast
@@ -40,6 +43,13 @@ CALLED = re.compile(r"\bCalled:((?:(?!\n\s*\n|\*/).)*)", re.S)
 AS_THERE = re.compile(r"\s+as\s+([\w-]+\.h)\s+says\b")
 WORDS = {"thread": re.compile(r"\bthreads?\b", re.I), "lock": re.compile(r"\b(?:lock(?:s|ed)?|unlocked)\b", re.I)}
 HANDLER = {"handler": re.compile(r"\bhandlers?\b", re.I)}
+LISTED = r"(?:, (?:and )?| and )"
+NAME, FILE = r"\b[a-z]\w*_\w+", r"[\w/]+\.[ch]\b"
+CALLERS = re.compile(rf"({NAME}(?:{LISTED}{NAME})*) (?:also )?by ({FILE}(?:{LISTED}{FILE})*)")
+# How tables have functions: hooks.def, and initialisers such as that of `above`.
+HOOKED = re.compile(r"\b(?:TELL|ASK)\w*\((?:[\w *]+, )?(\w+), (\w+),")
+INITIALISED = re.compile(r"\.(\w+) = (\w+),")
+INCLUDED = re.compile(r'^#include "(?:\w+/)*(\w+\.h)"', re.M)
 
 
 def read(path: str) -> str:
@@ -74,6 +84,37 @@ def is_head(path: str, files: Set[str]) -> bool:
     return bool(HEADERS.fullmatch(path) or SOURCES.fullmatch(path) and not files & {f"{stem}.h", f"{stem}.hpp"})
 
 
+class Code:
+    """The sources without their comments, and the other names by which functions are called."""
+
+    def __init__(self, files: List[str]) -> None:
+        parts = re.compile(r"(?:recorder|run|common)/(?!tests/)(?:.+/)?[\w-]+\.(?:[ch](?:pp)?|def)")
+        self.code = {it: re.sub(r"/\*.*?\*/", " ", read(it), flags=re.S) for it in files if parts.fullmatch(it)}
+        self.words = {path: set(re.findall(r"\w+", text)) for path, text in self.code.items()}
+        self.others: Dict[str, Set[str]] = {}
+        for path, text in self.code.items():
+            for field, name in INITIALISED.findall(text):
+                self.others.setdefault(name, set()).add(field)
+            for hook, name in HOOKED.findall(text) if path.endswith("hooks.def") else []:
+                self.others.setdefault(name, set()).update({f"note_{hook}", f"ask_{hook}"})
+
+    def words_of(self, file: str, head: str) -> Set[str]:
+        """Returns the words of a file that a head names, and of what it includes, without the head's own."""
+        own = os.path.splitext(head)[0]
+        found = {it for it in self.code if it == file or it.endswith(f"/{file}")}
+        included = {it for path in found for it in INCLUDED.findall(self.code[path])}
+        found |= {it for it in self.code if os.path.basename(it) in included}
+        return set().union(*(self.words[it] for it in found if os.path.splitext(it)[0] != own))
+
+    def untrue(self, head: str) -> Iterator[str]:
+        """Returns the callers that a head names, and that do not call."""
+        for names, by in (it for text in paragraphs_of(head) for it in CALLERS.findall(" ".join(text.split()))):
+            words = {file: self.words_of(file, head) for file in re.findall(FILE, by)}
+            called = {name: {name} | self.others.get(name, set()) for name in re.findall(NAME, names)}
+            yield from (file for file in words if not any(words[file] & it for it in called.values()))
+            yield from (name for name in called if not any(called[name] & it for it in words.values()))
+
+
 def constant_of(path: str, name: str) -> Any:
     """Returns what a Python source gives to a name."""
     for it in ast.parse(read(path)).body:
@@ -93,6 +134,7 @@ def listed(files: Set[str]) -> Set[str]:
 def findings(files: List[str]) -> Iterator[Finding]:
     known = set(files)
     handlers = listed(known)
+    code = Code(files)
     for path in sorted((handlers | EXEMPT) - known):
         yield ("tools/heads.py" if path in EXEMPT else LIST), 1, f"there is no {path}"
     for path in files:
@@ -102,3 +144,6 @@ def findings(files: List[str]) -> Iterator[Finding]:
         if missing:
             yield path, 1, ("its head says not who calls, in which thread, in a handler or not, and under which lock: "
                             + ", ".join(missing))
+        untrue = list(code.untrue(path))
+        if untrue:
+            yield path, 1, f"its head names callers that are none: {', '.join(untrue)}"
