@@ -111,7 +111,7 @@ static struct block notes_on(enum block_state state, size_t offset, const struct
                           .offset = offset / ALIGNMENT & ((1 << OFFSET_BITS) - 1)};
 }
 
-static inline void note_call_site(const struct block *block, struct origin from)
+static inline void note_allocated(const struct block *block, struct origin from)
 {
     if (arena.call_sites == NULL)
         return;
@@ -154,7 +154,7 @@ static void *place_block(size_t size, size_t alignment, struct origin from, cons
     uintptr_t address = place_in(block, size, alignment);
     enum block_state before = NOTE_NOW(block->all_bits) & ((1 << STATE_BITS) - 1);
     block_write(block, notes_on(before, address - (uintptr_t)slot_start(block), use));
-    note_call_site(block, from);
+    note_allocated(block, from);
     poison_around(block, address, size);
     if (size > MAX_BLOCK_SIZE) {
         /* It can't be spelled, so it is no block for the checker: memory between poison. */
@@ -186,7 +186,7 @@ static inline __attribute__((always_inline)) void *place_in_slot(struct shard *s
     uintptr_t address = slot.start + REDZONE;
     if (slot.block == NULL)
         return NULL;
-    note_call_site(slot.block, from);
+    note_allocated(slot.block, from);
     SET_NOTE(slot.block->size, (uint32_t)size);
     SET_NOTE(slot.block->alignment, use->alignment);
     note_left_out(shard);

@@ -49,7 +49,7 @@ void count_left_out(struct shard *shard)
         note_left_good(shard);
 }
 
-static inline void note_call_site(const struct block *block, struct origin from)
+static inline void note_freed(const struct block *block, struct origin from)
 {
     if (arena.call_sites != NULL)
         SET_NOTE(arena.call_sites[block - arena.blocks].freed, origin_place(from));
@@ -79,7 +79,7 @@ static inline enum freeing free_forward(struct shard *shard, struct block *block
         return FREEING_NEEDS_ALL;
     if (!heap.is_unpainted && arena.units[unit].kind == UNIT_SLAB)
         paint_held(address, block->size);
-    note_call_site(block, from);
+    note_freed(block, from);
     note_left_out(shard);
     if (!is_kept_free(shard, block, unit))
         forward_bury(shard, block, unit);
@@ -124,7 +124,7 @@ __attribute__((flatten)) enum freeing free_in_shard(struct shard *shard, uintptr
 static void free_unrecorded(struct block *block, struct origin from)
 {
     uintptr_t start = (uintptr_t)block_start(block);
-    note_call_site(block, from);
+    note_freed(block, from);
     poison_range(start, start + block->large_size);
     if (heap_is_ordered()) {
         quarantine_release(block);
@@ -138,7 +138,7 @@ static void free_in_order(struct block *block, uintptr_t address, struct origin 
 {
     if (!heap.is_unpainted)
         paint_held(address, block->size);
-    note_call_site(block, from);
+    note_freed(block, from);
     if (is_lean())
         note_left_out(NULL);
     else

@@ -71,12 +71,6 @@ static uint32_t take_oldest(void)
     return unit;
 }
 
-/* A shard may be making it a slab just now. */
-static uint32_t units_of(const struct unit *unit)
-{
-    return NOTE_NOW(unit->kind) == UNIT_RUN ? NOTE_NOW(unit->count) : 1;
-}
-
 static bool is_kept(const struct unit *unit)
 {
     return NOTE_NOW(unit->form) == FORM_BACK;
@@ -94,7 +88,7 @@ static void forget_oldest(void)
     SET_NOTE(unit->form, FORM_FORGOTTEN);
     if (unit->kind == UNIT_SLAB)
         arena_forget(number);
-    count_forgotten(number, units_of(unit));
+    count_forgotten(number, units_at(number));
 }
 
 /* The notes on a unit stay, until they are the oldest and too many. */
@@ -120,7 +114,7 @@ static uint32_t find_kept(uint32_t least, uint32_t most)
     for (uint32_t i = 0; i < heap.kept_count; i++) {
         uint32_t number = heap.kept[(heap.first_kept + i) % MOST_KEPT];
         const struct unit *unit = &arena.units[number];
-        if (is_kept(unit) && is_big == (number >= FIRST_BIG) && units_of(unit) >= least && units_of(unit) <= most)
+        if (is_kept(unit) && is_big == (number >= FIRST_BIG) && units_at(number) >= least && units_at(number) <= most)
             return number;
     }
     return 0;
@@ -140,7 +134,7 @@ void retiring_undo(uint32_t number)
     static uint32_t turns;
     struct unit *unit = &arena.units[number];
     bool has_notes = is_kept(unit);
-    uint32_t units = units_of(unit);
+    uint32_t units = units_at(number);
     turns += OPENED_BETWEEN;
     heap.kept_bytes -= has_notes ? note_bytes(unit) : 0;
     heap.retired_units -= units;
@@ -342,10 +336,7 @@ static unsigned living_pages(uint32_t number)
     const struct unit *unit = &arena.units[number];
     unsigned living = 0;
     for (uint32_t slot = 0; slot < unit->used; slot++) {
-        struct block now;
-        const struct block *block = block_at(number, slot);
-        now.all_bits = __atomic_load_n(&block->all_bits, __ATOMIC_ACQUIRE);
-        if (now.state == BLOCK_HELD && __atomic_load_n(&block->settled, __ATOMIC_ACQUIRE) == BLOCK_SETTLED)
+        if (is_settled(block_at(number, slot)))
             continue;
         uint32_t from = unit->lead + slot * unit->slot_size, last = from + unit->slot_size - 1;
         living |= (2U << last / PAGE) - (1U << from / PAGE);
@@ -459,16 +450,9 @@ static uint32_t region_of(uintptr_t address)
     return is_known ? (uint32_t)(distance / UNIT / REGION_UNITS) : REGIONS;
 }
 
-static const struct unit *unit_at(uintptr_t address)
+static uint32_t number_at(uintptr_t address)
 {
-    return &arena.units[(address - (uintptr_t)arena.bytes) / UNIT];
-}
-
-/* Whether it is in the body of a run whose notes went back with the region in which it begins. */
-static bool is_without_head(uintptr_t address)
-{
-    const struct unit *unit = unit_at(address);
-    return NOTE_NOW(unit->kind) == UNIT_RUN_BODY && NOTE_NOW((unit - NOTE_NOW(unit->count))->kind) == UNIT_NEW;
+    return (uint32_t)((address - (uintptr_t)arena.bytes) / UNIT);
 }
 
 bool retiring_has(uintptr_t address)
@@ -476,11 +460,11 @@ bool retiring_has(uintptr_t address)
     uint32_t region = region_of(address);
     if (region == REGIONS)
         return false;
-    const struct unit *unit = unit_at(address);
+    const struct unit *unit = &arena.units[number_at(address)];
     if (NOTE_NOW(unit->kind) == UNIT_RUN_BODY)
         unit -= NOTE_NOW(unit->count);
     return NOTE_NOW(unit->form) >= FORM_RETIRED || NOTE_NOW(heap.retired[region]) == REGION_UNITS
-           || is_without_head(address);
+           || is_headless(number_at(address));
 }
 
 size_t retiring_forgot(uintptr_t address)
@@ -490,7 +474,7 @@ size_t retiring_forgot(uintptr_t address)
         return 0;
     if (NOTE_NOW(heap.forgotten[region]) == REGION_UNITS)
         return (size_t)REGION_UNITS * UNIT;
-    const struct unit *unit = unit_at(address);
+    const struct unit *unit = &arena.units[number_at(address)];
     bool is_new = NOTE_NOW(unit->kind) == UNIT_NEW && NOTE_NOW(unit->form) == FORM_FORGOTTEN;
-    return is_new || is_without_head(address) ? UNIT : 0;
+    return is_new || is_headless(number_at(address)) ? UNIT : 0;
 }

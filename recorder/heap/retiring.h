@@ -37,6 +37,28 @@ bool retiring_has(uintptr_t address);
    on; or 0. */
 size_t retiring_forgot(uintptr_t address);
 
+/* How many units a run has that begins here; else 1. A shard may be making it a slab just now. */
+static inline uint32_t units_at(uint32_t number)
+{
+    const struct unit *unit = &arena.units[number];
+    return NOTE_NOW(unit->kind) == UNIT_RUN ? NOTE_NOW(unit->count) : 1;
+}
+
+/* Whether it is in the body of a run whose notes went back with the region in which it begins. */
+static inline bool is_headless(uint32_t number)
+{
+    const struct unit *unit = &arena.units[number];
+    return NOTE_NOW(unit->kind) == UNIT_RUN_BODY && NOTE_NOW((unit - NOTE_NOW(unit->count))->kind) == UNIT_NEW;
+}
+
+/* Whether the free of this block is over. */
+static inline bool is_settled(const struct block *block)
+{
+    struct block now;
+    now.all_bits = __atomic_load_n(&block->all_bits, __ATOMIC_ACQUIRE);
+    return now.state == BLOCK_HELD && __atomic_load_n(&block->settled, __ATOMIC_ACQUIRE) == BLOCK_SETTLED;
+}
+
 /* Whether more is dead than the quarantine may hold. */
 static inline bool dead_are_too_many(void)
 {

@@ -13,20 +13,6 @@ static bool is_wiped(uint32_t region)
     return NOTE_NOW(heap.forgotten[region]) == REGION_UNITS;
 }
 
-/* The rest of a run whose head was in a region that has no notes any more. */
-static bool is_headless(uint32_t number)
-{
-    const struct unit *unit = &arena.units[number];
-    return NOTE_NOW(unit->kind) == UNIT_RUN_BODY && NOTE_NOW((unit - NOTE_NOW(unit->count))->kind) == UNIT_NEW;
-}
-
-/* How many units a run has that begins here; else 1. A shard may be making it a slab just now. */
-static uint32_t units_at(uint32_t number)
-{
-    const struct unit *unit = &arena.units[number];
-    return NOTE_NOW(unit->kind) == UNIT_RUN ? NOTE_NOW(unit->count) : 1;
-}
-
 /* How many units from this one on are retired together; or 0. */
 static uint32_t retired_at(uint32_t number)
 {

@@ -199,14 +199,6 @@ static void close_slab(struct shard *shard, struct slab *slab)
         retiring_begin(before);
 }
 
-/* Whether the free of this block is over. */
-static bool is_settled(const struct block *block)
-{
-    struct block now;
-    now.all_bits = __atomic_load_n(&block->all_bits, __ATOMIC_ACQUIRE);
-    return now.state == BLOCK_HELD && __atomic_load_n(&block->settled, __ATOMIC_ACQUIRE) == BLOCK_SETTLED;
-}
-
 /* The next slot of a slab that was handed out before; or null: none is free. */
 static struct block *next_free_slot(struct slab *slab)
 {

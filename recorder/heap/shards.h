@@ -83,10 +83,4 @@ bool shards_give_back(void);
 /* No more of it: what shards have open stays as it is. With all. */
 void shards_stop(void);
 
-/* The form of the unit in which a block lies. At any time. */
-static inline enum unit_form form_of(uint32_t unit)
-{
-    return (enum unit_form)NOTE_NOW(arena.units[unit].form);
-}
-
 #endif

@@ -42,6 +42,12 @@ static void copy_name(_Atomic uint64_t to[NAME_WORDS], const uint64_t from[NAME_
         atomic_store(&to[i], from[i]);
 }
 
+static void note_name(unsigned number, const uint64_t name[NAME_WORDS])
+{
+    if (number < THREAD_UNKNOWN)
+        copy_name(notes[number].name, name);
+}
+
 void thread_begins(unsigned number)
 {
     if (number != THREAD_UNKNOWN)
@@ -51,7 +57,7 @@ void thread_begins(unsigned number)
     for (int i = 0; i < NAME_WORDS; i++)
         name[i] = atomic_load(&own_notes.name[i]);
     if (name[0] != 0)
-        thread_set_name(number, name);
+        note_name(number, name);
 }
 
 void thread_is_alone(int process)
@@ -72,12 +78,6 @@ struct thread_note thread_note(unsigned number)
     return now;
 }
 
-void thread_set_name(unsigned number, const uint64_t name[NAME_WORDS])
-{
-    if (number < THREAD_UNKNOWN)
-        copy_name(notes[number].name, name);
-}
-
 unsigned thread_named(uintptr_t thread, const uint64_t name[NAME_WORDS])
 {
     uintptr_t distance = (uintptr_t)&own_notes - PROCESSOR_THREAD(library_control_size());
@@ -85,6 +85,6 @@ unsigned thread_named(uintptr_t thread, const uint64_t name[NAME_WORDS])
     copy_name(of->name, name);
     /* After that: whoever begins meanwhile looks for a name once it has its number. */
     unsigned number = atomic_load(&of->number);
-    thread_set_name(number, name);
+    note_name(number, name);
     return number;
 }

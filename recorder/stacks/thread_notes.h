@@ -49,7 +49,5 @@ struct thread_note thread_note(unsigned number);
 /* Answers the number of a thread by its pthread_t, or of this one by 0. If it has none yet, it will have the name when
    it has. */
 unsigned thread_named(uintptr_t thread, const uint64_t name[NAME_WORDS]);
-/* The same by its number. */
-void thread_set_name(unsigned number, const uint64_t name[NAME_WORDS]);
 
 #endif

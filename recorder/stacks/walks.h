@@ -233,14 +233,6 @@ static inline void keep_frames(struct keeping *keeping, uintptr_t frame, uint32_
     keeping->frame = keeping->unused->first;
 }
 
-static inline void keep_frame(struct keeping *keeping, uintptr_t frame)
-{
-    if (keeping->walks == NULL)
-        return;
-    *keep_next(keeping, frame) = (struct pair){word_above(frame, 0), word_above(frame, 1)};
-    keep_frames(keeping, frame, 1);
-}
-
 static inline void keep_word(struct keeping *keeping, uintptr_t address, uintptr_t word)
 {
     if (keeping->walks == NULL)

@@ -38,11 +38,6 @@ void faults_begin(unsigned char *bytes, unsigned window)
     list_begin(bytes, window);
 }
 
-uint32_t fault_put_stack(call_site of)
-{
-    return list_put_stack(list_newest(), of);
-}
-
 /* Of the allocator's memory, whose shadow is there as a whole. */
 static void copy_shadow(uint64_t start, unsigned char to[SIDE_SHADOW])
 {
@@ -196,7 +191,7 @@ void fault_note_last(call_site last, uint64_t address, uint32_t how)
     side_note_last(&(struct side_last){
         .call_site = call_site_address(last),
         .address = address,
-        .stack = fault_put_stack(last),
+        .stack = list_put_stack(list_newest(), last),
         .thread = list_put_thread(list_newest(), call_site_thread(last)),
         .how = how,
     });

@@ -18,9 +18,6 @@
 void faults_begin(unsigned char *bytes, unsigned window);
 /* The side file was cut after what it has. */
 void faults_are_cut(void);
-/* Puts the stack of a call site beside the stream, if it is not there yet. Answers its number; 0: it has none, or no
-   room. */
-uint32_t fault_put_stack(call_site of);
 /* A bad access or free is being noted from here on, and has an event now, or none in this window. The first is before
    the system is called: if that ends the process, who reads the memory knows that something is missing. */
 void fault_begin(unsigned window);

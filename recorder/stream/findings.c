@@ -87,7 +87,7 @@ static void note_in(struct list *list, const struct finding *finding)
 }
 
 /* Whether there is a stream, or was one up to its limit: what stands beside it is there. */
-static bool has_side(void)
+static bool wakes_side(void)
 {
     bool is_there = is_on() || stream_state() == STATE_AT_LIMIT || stream_wake();
     return is_there && atomic_load_explicit(&STREAM->has_side, memory_order_relaxed);
@@ -99,7 +99,7 @@ void finding_note(const struct finding *finding)
     unsigned segment;
     do {
         segment = atomic_load(&STREAM->segment);
-        if (!has_side())
+        if (!wakes_side())
             break;
         struct list *list = list_newest();
         fault_begin(list_window(list));
@@ -107,7 +107,7 @@ void finding_note(const struct finding *finding)
         fault_end(list_window(list));
         /* The stream may have gone on in its next segment: who has read this one may have missed it. */
     } while (atomic_load(&STREAM->segment) != segment);
-    if (is_telling() && !is_leak(finding) && has_side())
+    if (is_telling() && !is_leak(finding) && wakes_side())
         above.tell(&(struct told){.finding = finding->kind, .caller = call_site_address(finding->call_site),
                                   .address = finding->start, .size = finding->size, .call = finding->call});
     errno = before;
