@@ -11,6 +11,7 @@ usage: tools/lint_tree.py
 - No test waits without a limit (`waits.py`).
 - No word stands there for which the field has another (`words.py`).
 - Each head of a C file says who calls, in which thread, in a handler or not, and under which lock (`heads.py`).
+- Headers of the recorder name the files that call their functions (`callers.py`).
 - Each edit of a mutant can be made: what it takes away stands once in its file.
 - Each lemma right in a folder `proofs` is cited. `Examples` and `Refuted` are lists of
   examples, and are left out.
@@ -38,6 +39,7 @@ from typing import Iterator, List, Tuple
 sys.path.insert(0, f"{os.path.dirname(os.path.realpath(__file__))}/..")  # where `testing` is
 
 import bodies
+import callers
 import heads
 import names
 import pages
@@ -178,6 +180,7 @@ def findings() -> Iterator[Finding]:
     yield from waits.findings(files)
     yield from words.findings(files)
     yield from heads.findings(files)
+    yield from callers.findings(files)
     yield from bad_edits(files)
     yield from other_release()
     yield from other_options()

@@ -1,4 +1,4 @@
-/* Stateless: sigaction without the C library, with the code to which a handler returns. */
+/* Stateless: sigaction without the C library, with the code to which a handler returns: no function calls that. */
 #define _GNU_SOURCE
 #include "base/actions.h"
 

@@ -1,7 +1,7 @@
 /* Numbers in decimal digits.
 
-   Called: by whoever puts a number into a text, in any thread, also in a handler; no lock: it calls nothing, and writes
-   only to the text that it is given. */
+   Called: by any file that puts a number into a text, in any thread, also in a handler; no lock: it calls nothing,
+   and writes only to the text that it is given. */
 #ifndef ASANCOL_DIGITS_H
 #define ASANCOL_DIGITS_H
 

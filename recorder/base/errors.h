@@ -1,6 +1,7 @@
 /* The system's errors in words.
 
-   Called: by whoever says why something failed, in any thread, also in a handler; no lock: a constant table. */
+   Called: by say.c, shadow/mapping.c, stream/ and process/own_run.c, in any thread, also in a handler; no lock: a
+   constant table. Shared objects have it too. */
 #ifndef ASANCOL_ERRORS_H
 #define ASANCOL_ERRORS_H
 

@@ -1,7 +1,8 @@
 /* Reading memory of the process that may be gone at any time, as when another thread closes a library or ends.
 
-   Called: by whoever reads memory that is not the recorder's, in any thread, also in a handler; no lock: the system is
-   asked. A struct known_page is the caller's. */
+   Called: memory_read_each by stream/modules.c, with the stream's lock; memory_is_all_there by leaks/marking.c,
+   while all other threads stand still; the rest by any file that reads memory which is not the recorder's, in any
+   thread, also in a handler. No lock: the system is asked. A struct known_page is the caller's. */
 #ifndef ASANCOL_MEMORY_H
 #define ASANCOL_MEMORY_H
 

@@ -1,8 +1,9 @@
 /* Which code is the recorder's own, so that a fault in there is its mistake. The build (Makefile) gives it a section
    for itself. The checks of calls and accesses are not there: they touch what the program has given.
 
-   Called: own_code_has by process/signals.c, in the handler of a fault; the others by heap/, in the thread that
-   allocates, for the block that it is about to get. No lock: nothing here has a state. */
+   Called: own_code_has by process/signals.c, in the handler of a fault; program_clear by heap/allocating.c and
+   arena.c, and program_copy by heap/allocating.c, in the thread that allocates, also in a handler, for the block
+   that it is about to get. No lock, nor is any held: nothing here has a state. */
 #ifndef ASANCOL_OWN_CODE_H
 #define ASANCOL_OWN_CODE_H
 

@@ -1,7 +1,8 @@
 /* What the recorder has to say.
 
-   Called: say_to by environment/settings.c at the start, say_again by process/process.c in a forked child, each in the
-   only thread; the others in any thread, also in a handler. No lock, and any lock may be held: nothing waits. */
+   Called: say_to by environment/settings.c at the start, say_again by that, and by process/process.c in a forked
+   child, each in the only thread; name_of_pattern by say_again, and by process/process.c with the allocator's lock;
+   recorder_say by any file, in any thread, also in a handler. No lock, and any lock may be held: nothing waits. */
 #ifndef ASANCOL_SAY_H
 #define ASANCOL_SAY_H
 

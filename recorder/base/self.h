@@ -1,8 +1,9 @@
 /* Who this process is, and what it has, as far as the recorder's parts ask.
 
    Called: self_note_process by process/process.c at the start and in a forked child; self_note_main there by a
-   constructor; self_note_checks by process/preload_wait.c when a module with checks comes. The rest by any file, in any
-   thread, also in a handler. No lock: each fact is one atomic variable. */
+   constructor; self_note_checks by process/preload_wait.c when a module with checks comes; recorder_has_checks and
+   recorder_has_begun by stream/, with its lock or before there is a stream. The other two by any file, in any
+   thread, also in a handler. No lock here: each fact is one atomic variable. */
 #ifndef ASANCOL_SELF_H
 #define ASANCOL_SELF_H
 

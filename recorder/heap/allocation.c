@@ -5,8 +5,8 @@
    In the two archives it is a member by itself, which a link takes only if the program calls one of these.
 
    Called: by the program, in place of the C library's functions, in any thread. No lock is held: heap_count and
-   heap_trim take the allocator's. malloc_stats and malloc_info call the C library's fputs, which may allocate and call
-   the program (fopencookie): so not in a handler, as in the C library. */
+   heap_trim take the allocator's, and mallopt none. malloc_stats and malloc_info call the C library's fputs, which
+   may allocate and call the program (fopencookie): so not in a handler, as in the C library; the others also there. */
 #define _GNU_SOURCE
 #include <errno.h>
 #include <malloc.h>

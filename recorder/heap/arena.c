@@ -14,7 +14,9 @@
    AT_ONCE units does not wait.
 
    Which run is taken next depends neither on the clock nor on what waits, and a free run may have units of both kinds.
-   So a program gets the same addresses each time. */
+   So a program gets the same addresses each time.
+
+   Static functions run with the lock that their caller has (arena.h). */
 #define _GNU_SOURCE
 #include "heap/arena.h"
 #include "shadow/mapping.h"

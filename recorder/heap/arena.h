@@ -2,10 +2,13 @@
    units and blocks lie apart from them, so that a program that writes out of bounds does not meet them; and a pointer
    is looked up by arithmetic alone. What has no memory yet faults.
 
-   Called: by the other files of heap/, in the thread that is in the allocator. Lock: central, or all (blocks.h); none
-   for arena_give_memory, which needs no notes, and for arena_clear, of a block that the thread has. The last three
-   below also by leaks/, interface/ and the stream (`above`, stream/state.h), in any thread, also in a handler, without
-   a lock: they read notes by NOTE_NOW. */
+   Called: by the other files of heap/, in the thread that is in the allocator, also in a handler that was let in.
+   Lock: for the functions of arena.c central, or all (blocks.h), but none for arena_give_memory, arena_drop and
+   arena_clear, of memory that the thread has; arena_keep_call_sites by numbers.c with all. Who writes notes by
+   unit_write, block_write and block_go has those, or is in its shard, for a unit or a block of that. The other
+   functions with a body here need none. The last three (nearest.c) need none either, since they read notes by
+   NOTE_NOW: by book.c and differing.c with the allocator's, by stream/near.c (`above`, stream/state.h), interface/,
+   process/halt_report.c and leaks/ with or without: in any thread, also in a handler. */
 #ifndef ASANCOL_ARENA_H
 #define ASANCOL_ARENA_H
 

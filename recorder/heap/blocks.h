@@ -7,11 +7,13 @@
 
    **Who is in here** (entering.c) has its own shard alone, or all. All is: the gate's lock, and no thread in a shard.
    Who is in a shard never waits for the gate. Under the lock `central` is what all shards take from and give to; who
-   has all may change that too, and takes it all the same. The order: the gate, central, the stream's.
+   has all may change that too, with or without it. The order: the gate, central, the stream's.
 
-   Called: by the files of heap/, in the thread that is in its shard, for the blocks of that, or has all; and by leaks/
-   with all (heap_lock). Without a lock: heap_allocate, heap_give_back and heap_move, by replaced.c, in any thread, also
-   in a handler. `arena` and `heap` are written in heap/ alone. */
+   Called: by the files of heap/, in the thread that is in its shard, for the blocks of that, or has all, also in a
+   handler that was let in; heap_for_each, and what reads the notes on a block, also by leaks/, with all (heap_lock).
+   Without a lock: heap_is_ordered and is_used anywhere in heap/, and heap_allocate, heap_give_back and heap_move, by
+   replaced.c, in any thread, also in a handler; there the program calls heap_own_free and heap_own_realloc. `arena`
+   and `heap` are written in heap/ alone. */
 #ifndef ASANCOL_BLOCKS_H
 #define ASANCOL_BLOCKS_H
 

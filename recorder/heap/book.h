@@ -1,8 +1,9 @@
 /* Lean recording: which blocks the checker of this segment knows, and how others are stated.
 
-   Called: book_forget by snapshot.c; the others by stream/watched.c (`above`, stream/state.h), in the thread of the bad
-   access or free, also in a handler. Lock: the allocator's, which watched.c takes. Where `holding` is HEAP_AT_LOCK, a
-   handler could not get it: then the book is not looked at. They record, but allocate nothing. */
+   Called: book_forget by snapshot.c; the others by stream/watched.c (`above`, stream/state.h), in the thread of the
+   bad access or free, also in a handler. Lock: the allocator's, which the caller has taken, and not the stream's.
+   Where `holding` is HEAP_AT_LOCK, a handler could not get it: then the book is not looked at. They record, and may
+   begin the next segment (switching.h), but allocate nothing. */
 #ifndef ASANCOL_BOOK_H
 #define ASANCOL_BOOK_H
 

@@ -1,8 +1,8 @@
 /* The lock of what all shards take from and give to (blocks.h). Nobody waits for anything else while it is held.
 
-   Called: by allocating.c, shards.c and retiring.c, in the thread that has its shard or all. A handler that has
-   interrupted it does not come here: it is not let in (entering.h), or closes the shards only if this lock is free
-   (arena_changing). */
+   Called: by allocating.c, shards.c and retiring.c, in the thread that is in its shard or has all, and has not taken
+   this lock. A handler that has interrupted it does not come here: it is not let in (entering.h), or closes the
+   shards only if this lock is free (arena_changing). */
 #ifndef ASANCOL_CENTRAL_H
 #define ASANCOL_CENTRAL_H
 

@@ -1,8 +1,9 @@
 /* The decision about the allocator's memory that lean recording states before a fault, by values alone.
    crates/asan_plan decides the same, and proves its effect: recorder/tests/plans.c compares the two.
 
-   Called: by the book (book.c), which reads the values, and writes the decision; in the thread with the fault, also in
-   a handler. No lock: nothing is shared. */
+   Called: by the book (book.c), which reads the values, and writes the decision; decide_block is called in
+   deciding.c alone. In the thread with the fault, also in a handler, with the allocator's lock. None is needed:
+   nothing is shared. */
 #ifndef ASANCOL_DECIDING_H
 #define ASANCOL_DECIDING_H
 

@@ -1,5 +1,9 @@
-/* Each thread has a visit, and the list of what handlers have freed meanwhile. Whoever needs all closes the gate, sees
-   that each shard is left, and takes central. This file alone changes who is in. */
+/* Each thread has a visit, and the list of what handlers have freed meanwhile. Whoever needs all closes the gate, and
+   sees that each shard is left. This file alone changes who is in. It has functions of heap.h too.
+
+   find_own and give_own take the gate for a moment; enter_somewhere takes the shard, or take_all all. With the gate run
+   membarrier, wait_for, close_all, give_all and open_others, and with all free_deferred. The other static functions
+   need no lock, and may run in a handler that has interrupted this thread anywhere. */
 #include "heap/entering.h"
 
 #include <limits.h>

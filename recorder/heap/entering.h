@@ -2,9 +2,11 @@
    thread is in here already is not let in: it gets spare memory (spare.h), and what it frees is freed by the thread
    that it has interrupted.
 
-   Called: by allocating.c and numbers.c, in any thread, also in a handler. The locks are taken here: heap_enter takes
-   the own shard, or all; heap_enter_all takes all, which is the gate's lock. Who was let in calls heap_leave, and only
-   who was. this_visit is the thread's own, and entering.c alone writes it. */
+   Called: by allocating.c and numbers.c, in any thread, also in a handler. The locks are taken here, and the caller
+   has none that comes after: heap_enter takes the own shard, or all; heap_enter_all takes all, which is the gate's
+   lock. Who was let in calls heap_leave, and only who was. heap_defer in a handler that was not. The functions
+   before heap_enter are for that, for heap_leave and for entering.c alone. this_visit is the thread's own, and
+   entering.c alone writes it. */
 #ifndef ASANCOL_ENTERING_H
 #define ASANCOL_ENTERING_H
 

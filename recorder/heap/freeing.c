@@ -1,5 +1,5 @@
 /* A free forward changes the block's note in one step, and then the shadow. One in order is done with all, and goes to
-   the quarantine. */
+   the quarantine. free_forward with what it calls, differ and is_as_made also run in a shard. */
 #include "heap/freeing.h"
 
 #include <errno.h>

@@ -1,8 +1,9 @@
 /* Blocks that are given back.
 
-   Called: the first two by allocating.c, and free_with_all by entering.c for what a handler has freed, in the thread
-   that is in its shard or has all (blocks.h), as each says, also in a handler that was let in. note_left_out by
-   allocating.c too. note_all_left_out by entering.c, in any thread, without a lock: it adds to atomic counts. */
+   Called: free_in_shard by allocating.c in the shard, free_with_all by that and by entering.c, for what a handler
+   has freed, with all (blocks.h): in the thread that frees, also in a handler that was let in. note_left_out, the
+   only caller of wake_stream and count_left_out, there and by allocating.c. note_all_left_out by entering.c, in any
+   thread, with all or without a lock: it adds to atomic counts. */
 #ifndef ASANCOL_FREEING_H
 #define ASANCOL_FREEING_H
 

@@ -2,7 +2,9 @@
    units, which another thread may be changing, or which this thread was changing when a signal came. Each is read once
    into a `struct slot`, and nothing of it is believed.
 
-   Called: the functions of arena.h and heap.h that are here, in any thread, also in a handler; no lock. */
+   Called: as arena.h says of its last three; of heap.h heap_poison_count by compiled code (interface/variables.c),
+   which writes the shadow and may record (regions.h), heap_end_around by process/threads.c, and heap_start_around by
+   that and the program. In any thread, also in a handler, with or without a lock: none is needed here. */
 #include "heap/arena.h"
 #include "heap/blocks.h"
 #include "heap/heap.h"

@@ -1,7 +1,8 @@
 /* What the allocator has as a whole: by the notes on all units, with all (blocks.h). No state of its own.
 
-   Called: as heap.h says, and heap_for_each as blocks.h does. heap_is_poisoned and heap_keep_call_sites take no lock:
-   the second runs with the allocator's. */
+   Called: as heap.h says, and heap_for_each as blocks.h does. heap_count, heap_trim and heap_paint take all, unless
+   the thread has it; heap_is_poisoned takes no lock; heap_for_each and heap_keep_call_sites run with all. In a
+   handler too. */
 #define _GNU_SOURCE
 #include "heap/entering.h"
 #include "heap/heap.h"

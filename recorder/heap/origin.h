@@ -1,8 +1,10 @@
 /* For whom the next malloc or free of this thread is: the caller that stands for it, and the operator of C++.
 
-   Called: by allocating.c, freeing.c and entering.c in the thread that allocates or frees. `said` is written before, in
-   the same thread, by heap_called_from and its like (heap.h), which checks and operators call. A handler that allocates
-   in between takes the word of a check, but not that of an operator. No lock: it is thread-local. */
+   Called: origin_take_use, origin_caller_or and origin_is_noted by allocating.c, origin_of by that and entering.c,
+   origin_place by allocating.c and freeing.c: in the thread that allocates or frees, also in a handler, inside the
+   allocator or not. `said` is written before, in the same thread, by the functions of heap.h in origin.c, which
+   checks of calls and operators call. A handler that allocates in between takes the word of a check, but not that of
+   an operator. No lock: it is thread-local. */
 #ifndef ASANCOL_ORIGIN_H
 #define ASANCOL_ORIGIN_H
 

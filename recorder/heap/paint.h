@@ -4,8 +4,9 @@
    bytes of a free. What it makes good is painted after: the bytes of a malloc. So whoever finds a byte addressable
    here came before the record that takes it away, or after the one that gives it.
 
-   Called: by allocating.c, freeing.c and quarantine.c, in the thread that is in its shard, for that shard's blocks, or
-   has all (blocks.h); no further lock. byte_of by book.c, and block_shadow anywhere: they only compute. */
+   Called: by allocating.c and freeing.c, in the thread that is in its shard, for that shard's blocks, or has all
+   (blocks.h); paint_released by quarantine.c with all; no further lock. byte_of by book.c, deciding.c and
+   differing.c, and block_shadow by allocating.c and differing.c too: they only compute. Also in a handler. */
 #ifndef ASANCOL_PAINT_H
 #define ASANCOL_PAINT_H
 

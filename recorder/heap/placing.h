@@ -1,8 +1,8 @@
 /* Where blocks lie: how far apart, in slots of which size, and where in a slot or a run. Blocks lie as far apart as
    AddressSanitizer's.
 
-   Called: by the files of heap/, in any thread; no lock: it only computes. place_in and slots_of read the notes on a
-   slot or unit that the thread has. */
+   Called: by allocating.c, quarantine.c, retiring.c, shards.c and shards.h, in any thread, also in a handler; no
+   lock: it only computes. place_in and slots_of read the notes on a slot or unit that the thread has. */
 #ifndef ASANCOL_PLACING_H
 #define ASANCOL_PLACING_H
 

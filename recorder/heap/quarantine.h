@@ -1,8 +1,9 @@
 /* In order: a freed block waits in the quarantine as long as the checker holds it, which counts the same bytes in the
    same order. Then its slot or run is reused: slots that were freed last come first.
 
-   Called: by allocating.c, freeing.c and snapshot.c, in the thread that has all (blocks.h), which is the lock; also in
-   a handler that was let in. */
+   Called: heap_order and quarantine_release_oldest by snapshot.c, quarantine_hold and quarantine_release by
+   freeing.c, the others by allocating.c: in the thread that has all (blocks.h), which is the lock; also in a handler
+   that was let in. heap_release_down_to_bound (heap.h) is here too. */
 #ifndef ASANCOL_QUARANTINE_H
 #define ASANCOL_QUARANTINE_H
 

@@ -1,7 +1,8 @@
 /* A unit goes from closed to retired, given back and forgotten; or, if half of its slots were freed, to a list from
    which it is opened again. Regions count their units that are retired and forgotten. The lists, the counts of regions
    and the returned units are changed with central. `left` and `form` of a unit are atomic: its shard opens and closes
-   it, and whoever frees its last block retires it, without central. */
+   it, and whoever frees its last block retires it, without central. Static functions run under central, except
+   give_back, give_back_row, recycle and look_at, which take it, and sort, region_of and number_at. */
 #define _GNU_SOURCE
 #include "heap/retiring.h"
 

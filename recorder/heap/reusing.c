@@ -1,6 +1,6 @@
 /* If the system has no more memory, retired units that lie side by side are used again, whatever they were: slabs, runs
    and parts of runs, and what has no notes any more. It is looked for from where it was found last, so that it is gone
-   over once, and all of it only if there is none. All of this is under central. */
+   over once, and all of it only if there is none. All of this, the static functions too, is under central. */
 #include "heap/reusing.h"
 
 #include "heap/retiring.h"

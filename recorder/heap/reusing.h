@@ -1,6 +1,7 @@
 /* If the system has no more memory: whatever is freed for good may be used again.
 
-   Called: by shards.c, in the thread that is in its shard or has all (blocks.h). Lock: central. */
+   Called: by shards.c, in the thread that is in its shard or has all (blocks.h), also in a handler that was let in.
+   Lock: central, which the caller has taken. */
 #ifndef ASANCOL_REUSING_H
 #define ASANCOL_REUSING_H
 

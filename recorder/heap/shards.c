@@ -1,5 +1,6 @@
 /* A list of all shards, which only grows, and one of those that no thread has. A shard has for each class the unit from
-   which it takes slots (struct slab). */
+   which it takes slots (struct slab). Under central run span_size, take_units and all that is for runs, except
+   forward_take_run, which takes it; with the gate add and make_shards. */
 #define _GNU_SOURCE
 #include "heap/shards.h"
 

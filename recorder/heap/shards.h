@@ -13,9 +13,11 @@
    of the quarantine, free slots of the oldest such units are reused, and the stream says so
    (side_note_reuse).
 
-   Called: by allocating.c, freeing.c, entering.c and quarantine.c, in the thread that is in this shard, or with all
-   (blocks.h). Lock: none further; central is taken here where units are. shards_give_back also by numbers.c, with all.
-   shard_take and shard_give with the gate; shards_are_left in a forked child. */
+   Called: shard_take_slot and shards_common by allocating.c, with forward_take_run; forward_bury and is_kept_free by
+   freeing.c: in the thread that is in this shard, or has all (blocks.h), also in a handler that was let in. No
+   further lock is held; central is taken here where units are. shards_give_back by numbers.c, and shards_stop by
+   quarantine.c, with all. By entering.c shard_take and shard_give with the gate, and shards_are_left in a forked
+   child. */
 #ifndef ASANCOL_SHARDS_H
 #define ASANCOL_SHARDS_H
 

@@ -1,8 +1,9 @@
 /* What a stream begins with, if there was something before it. So the checker holds the same blocks as the heap, and
    finds the same wrong from here on. `struct snapshot` counts the events, or records them.
 
-   Called: heap_snapshot (heap.h) by process/process.c when recording begins, and by stream/switching.c (`above`) when a
-   segment does, in the thread that has the allocator's lock: all (blocks.h). */
+   Called: heap_snapshot (heap.h) by process/process.c when recording begins, and by stream/switching.c (`above`)
+   when a segment does, which has the stream's lock too: in the thread that has the allocator's lock, all (blocks.h),
+   with signals blocked. Static functions run there. */
 #define _GNU_SOURCE
 #include "heap/blocks.h"
 #include "heap/book.h"

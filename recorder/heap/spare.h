@@ -1,8 +1,9 @@
 /* For a signal handler whose thread was interrupted in the allocator: memory that is no block, at addresses that are
    never given again.
 
-   Called: by allocating.c and entering.c, in a handler; is_spare, spare_size and spare_drop in any thread, for a
-   pointer that it has. No lock: only `heap.spare_used` is shared, an atomic that grows. */
+   Called: spare_take by allocating.c and entering.c, in a handler that was not let in; is_spare, spare_size and
+   spare_drop by allocating.c, in any thread, for a pointer that it has. No lock: only `heap.spare_used` is shared,
+   an atomic that grows. */
 #ifndef ASANCOL_SPARE_H
 #define ASANCOL_SPARE_H
 

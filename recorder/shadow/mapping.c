@@ -1,6 +1,7 @@
 /* Where the shadow lies. This is linked into the program and into each shared object: one may be opened by a program
    that has no recorder, and its code reads and writes the shadow all the same. Each object knows of itself whether it
-   has mapped (`is_mapped`), and where its code lies (`own_code`). */
+   has mapped (`is_mapped`), and where its code lies (`own_code`). In shared objects the dynamic linker calls
+   map_at_relocation, and gets do_nothing, which nobody calls. */
 #define _GNU_SOURCE
 #include "shadow/mapping.h"
 

@@ -1,9 +1,11 @@
 /* Where the shadow lies, and the page beside it. An object is the program or a shared object: each has this file.
 
-   Called: shadow_map and shadow_try_to_map by the first call into an object (start/, interface/variables.c,
-   heap/arena.c), in its thread: there is no second one yet, or the loader's lock is held, as when a shared object maps
-   while it is relocated. shadow_switch and shadow_forked by process/process.c with the allocator's lock, when recording
-   begins. is_in_guard and is_in_own_file in any thread, also in a handler; no lock: they read constants. */
+   Called: shadow_map by the first call into an object (start/, interface/variables.c, heap/arena.c),
+   shadow_try_to_map by process/preload_choice.c: in the thread of that call. There is no second one yet, or the
+   loader's lock is held, as when a shared object maps while it is relocated. shadow_switch and shadow_forked by
+   process/process.c with the allocator's lock, when a recording begins. is_in_guard by process/signals.c, in a
+   handler; is_in_own_file by stacks/ and process/given.c, in any thread, also in a handler. No lock: these two read
+   constants. */
 #ifndef ASANCOL_MAPPING_H
 #define ASANCOL_MAPPING_H
 

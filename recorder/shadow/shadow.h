@@ -12,9 +12,10 @@
    differ, the stream is brought up before the access is recorded (stated.c). So a frame whose redzones nobody comes
    near costs nothing, and a stream that begins later begins with a map of zeros.
 
-   Called: by compiled code, which reads and writes it, and by any file, in any thread, also in a handler. No lock: who
-   writes owns the memory, and who reads may see the byte before or after. shadow_note_file by shadow/unused.c alone,
-   with the allocator's lock; shadow_note_poison by stream/record.c, and shadow_may_be_poisoned by heap/differing.c. */
+   Called: by compiled code, which reads and writes it, and by any file, in any thread, also in a handler. No lock:
+   who writes owns the memory, and who reads may see the byte before or after. Of the notes in shadow.c,
+   shadow_is_of_file is asked by heap/ and unused.c, and shadow_note_file called by unused.c alone, with the
+   allocator's lock; shadow_note_poison by stream/record.c, and shadow_may_be_poisoned by heap/differing.c. */
 #ifndef ASANCOL_SHADOW_H
 #define ASANCOL_SHADOW_H
 

@@ -2,8 +2,9 @@
    of one file, so it costs nothing, however much memory it is. What the allocator writes there is the process's own,
    and the file stays.
 
-   Called: by heap/poisoning.c, retiring.c and numbers.c, in the thread that is in the allocator. Lock: central, or all
-   (heap/blocks.h); none for unused_show_again of units that this thread has just retired. */
+   Called: unused_show by heap/poisoning.c and retiring.c with central; unused_show_again by retiring.c, for units
+   that the thread has just retired, which needs no lock; unused_hide by numbers.c with all of the allocator
+   (heap/blocks.h): in the thread that is in the allocator, also in a handler that was let in. */
 #ifndef ASANCOL_UNUSED_H
 #define ASANCOL_UNUSED_H
 

@@ -1,8 +1,9 @@
 /* Call frame information: what compilers write in .eh_frame of each instruction, so that an exception finds its way
    from there to the caller. It leads through code without frame pointers, such as that of libraries.
 
-   Called: cfi_find by unwinding.c, in any thread, also in a handler; no lock: there is no state, and the C library's
-   _dl_find_object takes none. IS_OWN_FRAME stands in process/threads.c and calls/. */
+   Called: cfi_find by unwinding.c, for an instruction that has no kept rule, in any thread, also in a handler, with
+   or without locks. No lock here: there is no state, and the C library's _dl_find_object takes none. IS_OWN_FRAME
+   stands in process/threads.c and calls/. */
 #ifndef ASANCOL_CFI_H
 #define ASANCOL_CFI_H
 

@@ -3,10 +3,12 @@
    keeps its variables on the stack if it gets none. When the function returns, that code marks the frame's shadow as
    SHADE_RETURNED and clears a flag, whose address stands in the frame's last word.
 
-   Called: by compiled code (interface/fake_frames.c), and by process/threads.c at jumps and at the end of a thread, in
-   the thread whose frames they are, also in a handler. No lock: the thread alone uses its slot, and the list of free
-   slots is atomic. fake_stack_start and fake_stack_stop by process/process.c; fake_each_frame by leaks/roots.c, while
-   all other threads stand still; fake_start_of by frames.c, in any thread. */
+   Called: fake_take and fake_give by compiled code, by way of interface/hooks.def, and so fake_current and
+   fake_real_of by the program; fake_frames_left, fake_context_begins and fake_thread_ends by process/threads.c at
+   jumps, new contexts and the end of a thread: each in the thread whose frames they are, also in a handler.
+   fake_start_of by frames.c, in any thread, also in a handler. No lock: the thread alone uses its slot, and the list
+   of free slots is atomic. By process/process.c fake_stack_start at the start, without a lock, and fake_stack_stop
+   with the allocator's. fake_each_frame by leaks/roots.c, while all other threads stand still. */
 #ifndef ASANCOL_FAKE_STACK_H
 #define ASANCOL_FAKE_STACK_H
 
@@ -31,7 +33,7 @@ enum { FRAMES_NEVER /* nothing is recorded */, FRAMES_GIVEN, FRAMES_REFUSED /* b
 
 /* From now on threads get frames; if `by_default` is false, those that are compiled with `always` alone. */
 void fake_stack_start(bool by_default);
-/* No thread gets one. In a process with one thread. */
+/* This thread gets none, nor does one that has had none. */
 void fake_stack_stop(void);
 
 /* A frame of this class, for a function that is called from a frame above `real`. 0: there is none. A signal handler

@@ -1,7 +1,8 @@
 /* The variables of frames, as the compilers describe them, and arrays of dynamic size.
 
-   Called: by stream/faults.c, near.c and interface/describing.c, in any thread, also in a handler; no lock: nothing is
-   kept. The described memory may be gone, so it is read by memory_read. */
+   Called: frame_around by stream/faults.c, frame_nearest by stream/near.c, and both by interface/describing.c; the
+   rest by stream/near.c: in any thread, also in a handler, with or without locks. No lock here: nothing is kept. The
+   described memory may be gone, so it is read by memory_read. */
 #ifndef ASANCOL_FRAMES_H
 #define ASANCOL_FRAMES_H
 

@@ -1,8 +1,9 @@
 /* Where the thread's own stack lies.
 
-   Called: stack_start by start/start.c, in the first thread; of another one process/threads.c writes own_stack, as that
-   thread begins. The rest in the thread itself, also in a handler; no lock: own_stack is thread-local. leaks/roots.c
-   reads that of other threads, which stand still. */
+   Called: stack_start by start/start.c, in the first thread; page_above by that, and by process/threads.c, which
+   writes own_stack of another thread, as that begins. The rest by unwinding.c, process/ and interface/, in the
+   thread itself, also in a handler. No lock: own_stack is thread-local; walks.c and fake_stack.c read it too.
+   leaks/roots.c reads that of other threads, which stand still. */
 #ifndef ASANCOL_OWN_STACK_H
 #define ASANCOL_OWN_STACK_H
 

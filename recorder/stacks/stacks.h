@@ -1,10 +1,8 @@
 /* Stacks of calls. Each is kept once, and a call site stands for it: a word that is kept where an address would be. So
    a block needs no more room for the stack of its malloc than for its caller.
 
-   Called: by heap/ for each malloc and free, by stream/ for faults and findings, and by process/, leaks/ and
-   interface/, in any thread, also in a handler, with or without locks. No lock here: words and the table are atomic
-   (stacks.c). It allocates nothing, and calls the system only for memory that may be gone. stacks_begin by
-   start/start.c. */
+   Called: as each function says, in any thread, also in a handler, with or without locks. No lock here: words and
+   the table are atomic (stacks.c). It allocates nothing, and calls the system only for memory that may be gone. */
 #ifndef ASANCOL_STACKS_H
 #define ASANCOL_STACKS_H
 
@@ -21,28 +19,31 @@ struct call_sites {
     call_site allocated, freed;
 };
 
-/* Before the first call site. */
+/* Before the first call site. (start/start.c, in the first thread) */
 void stacks_begin(void);
-/* The call site from which we came to `caller`, with the calls that led there (unwinding.h). */
+/* The call site from which we came to `caller`, with the calls that led there (unwinding.h). (stream/, interface/,
+   process/) */
 call_site call_site_of(uintptr_t caller);
-/* The same, if between here and that call lies code without frame pointers: from a frame beyond that, or 0. */
+/* The same, if between here and that call lies code without frame pointers: from a frame beyond that, or 0. (heap/,
+   for each malloc and free) */
 call_site call_site_from(uintptr_t frame, uintptr_t caller);
-/* The call site that stands for an instruction at which a signal has come. */
+/* The call site that stands for an instruction at which a signal has come. (process/signals.c, in a handler) */
 call_site call_site_at(const struct registers *registers);
-/* The address after the innermost call. */
+/* The address after the innermost call. (stream/, heap/families.c, interface/, leaks/roots.c, process/) */
 uintptr_t call_site_address(call_site of);
-/* The number of the thread that made it (thread_notes.h). */
+/* The number of the thread that made it (thread_notes.h). (stream/, interface/, process/halt_report.c) */
 unsigned call_site_thread(call_site of);
-/* The same call site and stack, of whichever thread. */
+/* The same call site and stack, of whichever thread. (leaks/lost.c) */
 call_site call_site_of_any_thread(call_site of);
-/* Its frames, the innermost first, and how many there are; 0: it has no stack. */
+/* Its frames, the innermost first, and how many there are; 0: it has no stack. (stream/lists.c, interface/,
+   process/halt_report.c) */
 unsigned call_site_frames(call_site of, uint64_t frames[MAX_FRAMES]);
 
-/* Each stack has room for one number, which a fork and the end of a recording take away. */
+/* Each stack has room for one number, which a fork and the end of a recording take away. (stream/lists.c) */
 uint32_t call_site_number(call_site of);
-/* Gives it a number if it has none, and answers the one that it has. */
+/* Gives it a number if it has none, and answers the one that it has. (stream/lists.c) */
 uint32_t call_site_give_number(call_site of, uint32_t number);
-/* Takes the numbers of all away. */
+/* Takes the numbers of all away. (stream/lists.c, with the stream's lock or before there is a stream) */
 void call_sites_forget_numbers(void);
 
 #endif

@@ -1,9 +1,10 @@
 /* Threads, by their numbers in the order in which they were created. The notes on one stay when it has ended, and
    its number is not used again.
 
-   Called: thread_is_first by start/start.c, thread_create and thread_begins by process/threads.c, thread_is_alone by
-   process/process.c; the rest by stream/, interface/ and stacks.c, in any thread, also in a handler. No lock: each word
-   of a note is atomic. */
+   Called: thread_is_first by start/start.c; thread_create by process/threads.c in the thread that calls
+   pthread_create, and thread_begins there in the new one; thread_is_alone by process/process.c, in a forked child;
+   thread_named by stream/thread_list.c, and thread_note by that and stream/side.c: in any thread, also in a handler.
+   thread_number by any file. No lock: each word of a note is atomic. */
 #ifndef ASANCOL_THREAD_NOTES_H
 #define ASANCOL_THREAD_NOTES_H
 

@@ -1,9 +1,10 @@
 /* The calls that have led somewhere: from frame to frame, by call frame information (cfi.h), and by frame pointers
    where a function has none. On any stack: what cannot be read ends it.
 
-   Called: by stacks.c, in the thread whose stack it is, also in a handler. No lock: `struct stack` is the caller's, and
-   a rule is written so that another thread takes no half of it (unwinding.c). unwinding_modules_changed by
-   process/plain.c and interface/hooks.c, in any thread, after a library was opened. */
+   Called: unwind_from_call, unwind_end and unwind_from_registers by stacks.c, in the thread whose stack it is, also
+   in a handler, with or without locks. No lock here: `struct stack` is the caller's, and a rule is written so that
+   another thread takes no half of it (unwinding.c). unwinding_modules_changed by process/plain.c and
+   interface/hooks.c, in any thread, after a library was opened. */
 #ifndef ASANCOL_UNWINDING_H
 #define ASANCOL_UNWINDING_H
 

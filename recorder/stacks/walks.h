@@ -8,9 +8,10 @@
    back at its end. A place is a part of a table of zeros, of which the system gives a page once that is written to:
    nothing is allocated. It is emptied if it is full, and if rules may have changed.
 
-   Called: walks_recall by stacks.c and the rest by unwinding.c, in the thread that walks; walks_give by
-   process/threads.c, as the thread ends; walks_are_alone by process/process.c, in a forked child. No lock: a place is
-   its thread's alone, and who uses it sets `own_walks.walker`. A handler that finds that set leaves the place alone. */
+   Called: walks_recall by stacks.c, and the rest by unwinding.c as it walks, in the thread that walks, also in a
+   handler; walks_give by process/threads.c, as the thread ends; walks_are_alone by process/process.c, in a forked
+   child. No lock: a place is its thread's alone, and who uses it sets `own_walks.walker`. A handler that finds that
+   set leaves the place alone. */
 #ifndef ASANCOL_WALKS_H
 #define ASANCOL_WALKS_H
 

@@ -1,8 +1,8 @@
 /* An access, or a free, as the program has asked for it. Its pieces are recorded one after another, each as an event,
    and are one report.
 
-   Called: by record.c, watched.c, heap/allocating.c and process/halt.c, in the thread that makes the access, which
-   alone has the struct, on its stack; no lock. */
+   Called: by record.c, watched.c, heap/allocating.c and process/halt.c, in the thread that makes the access, also in
+   a handler. It alone has the struct, on its stack; no lock. */
 #ifndef ASANCOL_ACCESS_H
 #define ASANCOL_ACCESS_H
 

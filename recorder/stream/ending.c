@@ -1,5 +1,6 @@
 /* Each way goes by the same steps: the state is left, the records are gone over up to the end (holes.c), the tail is
-   put (keeping.h), and what stands beside it says how it ended: ending_at. */
+   put (keeping.h), and what stands beside it says how it ended: ending_at. Static functions run with the stream's lock,
+   except lock_for_end, leave_undisturbed and turn_off. */
 #include "stream/ending.h"
 
 #include "base/disturbance.h"

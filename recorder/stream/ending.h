@@ -1,8 +1,9 @@
 /* The end of a stream: at its limit, at an exit, at the end by a signal, and of a segment.
 
-   Called: stream_end and stream_close by process/process.c, in the thread that ends the process, also in a handler;
-   ending_at_limit by places.c, in the thread whose record is one too many, also in a handler. These three take the
-   lock. stream_has_one_end by start/start.c, without it. The rest by switching.c and suspending.c, with it. */
+   Called: stream_end and stream_close by process/process.c, in the thread that ends the process or execs, also in a
+   handler; ending_at_limit by places.c, in the thread whose record is one too many, also in a handler. These three
+   take the lock. stream_has_one_end by start/start.c, without it. The rest by this file, switching.c and
+   suspending.c, with it. */
 #ifndef ASANCOL_ENDING_H
 #define ASANCOL_ENDING_H
 

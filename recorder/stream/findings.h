@@ -1,8 +1,10 @@
 /* Findings: what the recorder knows to be wrong, and no event of the stream shows. Each is one entry in the list of
    faults, for each call site with its stack. Nobody checks it again: it is the recorder's word.
 
-   Called: by watched.c, heap/, leaks/ and interface/, in any thread, also in a handler, with or without the allocator's
-   lock. No lock here: the list is atomic (fault_list.h). The program may be told (telling.h), which runs its code. */
+   Called: finding_note by heap/families.c, leaks/leaks.c and interface/odr.c, finding_note_call by watched.c, heap/,
+   calls/ and interface/ (hooks.def): in any thread, also in a handler, with or without the allocator's lock, but not
+   the stream's. No lock is needed: the list is atomic (fault_list.h), which may take the stream's for room on the
+   disk. The program may be told (telling.h), which runs its code. */
 #ifndef ASANCOL_FINDINGS_H
 #define ASANCOL_FINDINGS_H
 

@@ -1,7 +1,8 @@
 /* The room that a stream has, as it grows.
 
-   Called: has_room by places.c, in any thread, also in a handler, without the lock; growing_to with the stream's lock,
-   by places.c in the thread whose record needs the room, and by switching.c and ending.c. */
+   Called: has_room by places.c, in any thread, also in a handler, without the lock; growing_to with the stream's
+   lock, by places.c in the thread whose record needs the room, and by switching.c and ending.c: these may run in a
+   handler too. */
 #ifndef ASANCOL_GROWING_H
 #define ASANCOL_GROWING_H
 

@@ -1,7 +1,9 @@
 /* The map of modules, as the system writes it: text, a line for each part.
 
-   Called: by modules.c and side.c, and by process/, heap/families.c and leaks/, in any thread, also in a handler. No
-   lock: nothing is kept, and all memory is the caller's. */
+   Called: maps_take_line by modules.c, side.c, process/unchecked.c and leaks/root_regions.c, maps_is_module by the
+   first two, maps_is_same_file by modules.c and process/unchecked.c, and the two of map_head by modules.c: there
+   with the stream's lock, except in leaks/; maps_find_note by heap/families.c, process/plain.c and preload_choice.c.
+   In any thread, also in a handler. No lock is needed: nothing is kept, and all memory is the caller's. */
 #ifndef ASANCOL_MAPS_H
 #define ASANCOL_MAPS_H
 

@@ -2,8 +2,9 @@
    and copied to what stands beside the stream: a forked child has its parent's, which was made anew before the fork if
    the loader had loaded or unloaded something by then.
 
-   Called: by side.c, and module_at also by process/unchecked.c as it makes the list of unchecked code (`above`,
-   state.h): in any thread, also in a handler. Lock: the stream's; at the start no other thread is in the stream. */
+   Called: by side.c, and module_at by process/unchecked.c as it makes the list of unchecked code (`above`, state.h):
+   in any thread, also in a handler. Lock: the stream's; at the start, when a stream begins and for
+   modules_are_of_generation, no other thread is in the stream. */
 #ifndef ASANCOL_MODULES_H
 #define ASANCOL_MODULES_H
 

@@ -1,7 +1,8 @@
 /* What lies nearest to a bad byte: a block, or a variable. It is described in the fault.
 
-   Called: by faults.c and findings.c, near_name_global by interface/odr.c, in any thread, also in a handler. No lock:
-   the allocator's notes are read without it (heap/nearest.c), and what may be gone by memory_read. */
+   Called: near_block by faults.c and findings.c, near_name_global by interface/odr.c, the others by faults.c: in any
+   thread, also in a handler, with or without locks. No lock here: the allocator's notes are read without it
+   (heap/nearest.c), and what may be gone by memory_read. */
 #ifndef ASANCOL_NEAR_H
 #define ASANCOL_NEAR_H
 

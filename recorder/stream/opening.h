@@ -1,9 +1,10 @@
 /* The beginning of a stream: where it goes, and its header.
 
-   Called: stream_begin by process/process.c, with the allocator's lock and not the stream's: in the thread that starts
-   the recorder or begins late, where no other thread is in the stream, or in a forked child. stream_forget there in a
-   forked child, with both locks, which its parent took for the fork. Each except the first start perhaps in a signal
-   handler. The rest by these two, and by switching.c in the thread that switches, with both locks. */
+   Called: stream_begin by process/process.c, with the allocator's lock and not the stream's: in the thread that
+   starts the recorder or begins late, where no other thread is in the stream, or in a forked child. stream_forget
+   there in a forked child, with both locks, which its parent took for the fork. Each except the first start perhaps
+   in a signal handler. The rest by these two, and, except opening_take_back in a child, by switching.c in the thread
+   that switches, with both locks. */
 #ifndef ASANCOL_OPENING_H
 #define ASANCOL_OPENING_H
 

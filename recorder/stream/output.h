@@ -1,7 +1,12 @@
 /* Where bytes go: a file that is mapped, or a descriptor that takes pieces.
 
-   Called: by the other files of stream/, in the thread that has the stream's lock, also in a handler, or that starts
-   the stream; output_lose by keeping.c in the handler of SIGBUS, which waits for none. */
+   Called: output_open_file and output_close by opening.c and switching.c; output_connect, output_open_memory and
+   output_send_first by opening.c; output_send by that, ending.c and sending.c; output_extend by growing.c and
+   suspending.c; output_back by side.c; output_trim and output_leave by keeping.c; output_discard by switching.c;
+   output_is_closed by that and sending.c; output_number by opening.c and segments.c, and output_name_segment by
+   segments.c: in the thread that has the stream's lock, also in a handler, or that starts the stream. Without it
+   output_is_closed by sending.c as a process ends, and output_lose by keeping.c in the handler of SIGBUS, which
+   waits for none. */
 #ifndef ASANCOL_OUTPUT_H
 #define ASANCOL_OUTPUT_H
 

@@ -1,8 +1,9 @@
 /* The recording of accesses, in code that is inlined where they are, and regions. writing.h says how.
 
-   Called: by interface/, for the accesses of compiled code and of library calls, by calls/, by heap/ and by
-   process/halt.c, in any thread, also in a handler. No lock, unless something is unusual: then places.h and watched.h
-   take the allocator's and the stream's. */
+   Called: by interface/hooks.h and hooks.def, for the accesses of compiled code and of library calls; record_regions
+   also by heap/allocating.c, record_piece_of and record_tell by process/halt.c: in any thread, also in a handler.
+   The caller has no lock. None is taken, unless something is unusual: then places.h and watched.h take the
+   allocator's and the stream's. */
 #ifndef ASANCOL_RECORD_H
 #define ASANCOL_RECORD_H
 

@@ -1,9 +1,10 @@
 /* Records of regions: blocks, and poison.
 
-   Called: for blocks by heap/ with the allocator's lock (all, heap/blocks.h), for poison by record.c and stating.c
-   without it, record_here by heap/book.c and watched.c with it, in any thread, also in a handler. No lock here: a
-   record takes its place by an addition (writing.h). Past the limit of events places.c takes the locks for a new
-   segment. */
+   Called: record_free, record_here and record_poison_here by heap/ and watched.c, with the allocator's lock (all,
+   heap/blocks.h); record_region and record_poison there for blocks with it, and by record.c, stating.c and
+   heap/nearest.c for poison with it or without; record_unused by heap/poisoning.c, inside the allocator;
+   region_piece by record.c too. In any thread, also in a handler. No lock here: a record takes its place by an
+   addition (writing.h). Past the limit of events places.c takes the locks for a new segment. */
 #ifndef ASANCOL_REGIONS_H
 #define ASANCOL_REGIONS_H
 

@@ -6,9 +6,12 @@
      later one, reads it without the lock.
    - `locked` (locked.h): only who has the lock of the stream.
 
-   Called: by any file, in any thread, also in a handler, as each function says. Who takes the lock by stream_lock, or
-   the two beside it, gives it back by stream_unlock; meanwhile all signals are blocked, except SIGBUS, and it is not
-   cancelled. So a handler may wait for it. README.md has the order of all locks: this is the last. */
+   Called: stream_state and the questions by any file, in any thread, also in a handler, without a lock; state_start
+   by process/process.c; what changes the state by the files of stream/, as each function says. Who takes the lock by
+   stream_lock, or the two beside it, in stream/ or for a fork in process/process.c, gives it back by stream_unlock;
+   meanwhile all signals are blocked, except SIGBUS, and it is not cancelled. So a handler may wait for it. README.md
+   has the order of all locks: this is the last. stream_rest and stream_waits_again are for who waits, in places.c
+   and holes.c. */
 #ifndef ASANCOL_STATE_H
 #define ASANCOL_STATE_H
 
@@ -208,10 +211,11 @@ uint64_t state_leave(enum state to);
 void state_go(enum state to);
 /* To OFF, from any state. Answers the cursor that it had. At any time. */
 uint64_t state_lose(void);
-/* In a child after a fork, which has its parent's state and a cursor of zeros. */
+/* In a child after a fork, which has its parent's state and a cursor of zeros; or at a start that records nothing. */
 void state_forget(void);
 
-/* The fast path looks at one number: that of the event to stop at, as long as the process has not come there. */
+/* The fast path looks at one number: that of the event to stop at, as long as the process has not come there. An atomic
+   store, with the lock as a segment begins, or without by places.c. */
 void state_set_events_end(uint64_t stop);
 
 /* The lock. Who has it is undisturbed. */

@@ -1,7 +1,8 @@
 /* What the stream states of memory outside the allocator's, brought up to the shadow.
 
-   Called: by watched.c, in the thread whose access comes to that memory, also in a handler. No lock: a thread has a
-   granule for itself by one compare-and-swap, and who comes to it waits for a while, and then goes on in its place. */
+   Called: by watched.c, in the thread whose access comes to that memory, also in a handler, without the stream's
+   lock. No lock is needed: a thread has a granule for itself by one compare-and-swap, and who comes to it waits for
+   a while, and then goes on in its place. They record (regions.h). */
 #ifndef ASANCOL_STATING_H
 #define ASANCOL_STATING_H
 

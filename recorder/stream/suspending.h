@@ -1,8 +1,8 @@
 /* Around an exec: the stream ends, and goes on if the exec fails.
 
-   Called: by process/process.c, in the thread that calls exec, also in a handler. Lock: it holds the allocator's from
-   before stream_suspend until after stream_resume, so that nobody switches to another segment meanwhile. The stream's
-   is taken here. */
+   Called: by process/process.c, in the thread that calls exec, also in a handler. Lock: it holds the allocator's
+   from before stream_suspend until after stream_resume, so that nobody switches to another segment meanwhile;
+   without it stream_resume comes only where the stream had ended at its limit. The stream's is taken here. */
 #ifndef ASANCOL_SUSPENDING_H
 #define ASANCOL_SUSPENDING_H
 

@@ -1,5 +1,5 @@
 /* For files the next segment opens before this one ends; for connections this one ends first. In both the window
-   changes last, by which other threads notice it. */
+   changes last, by which other threads notice it. Static functions run with the allocator's lock and the stream's. */
 #define _GNU_SOURCE
 #include "stream/switching.h"
 

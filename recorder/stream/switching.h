@@ -2,8 +2,9 @@
 
    Called: switching_go_on by places.c and watched.c, in any thread, also in a handler that has not interrupted the
    allocator: it takes the allocator's lock, unless this thread has it, and the stream's. switching_begin_anew by
-   heap/book.c and process/process.c with the allocator's lock: it takes the stream's. switching_reserve with both, in
-   the thread that takes the snapshot. The other two without a lock. */
+   heap/book.c and process/process.c with the allocator's lock: it takes the stream's. switching_reserve by places.c
+   with both, in the thread that takes the snapshot; switching_takes_snapshot there, and stream_snapshot_room by
+   process/process.c, without a lock. */
 #ifndef ASANCOL_SWITCHING_H
 #define ASANCOL_SWITCHING_H
 

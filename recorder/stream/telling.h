@@ -1,8 +1,9 @@
 /* A program may ask to be told of each report while it runs (interface/reports.h). Bad accesses and frees come from
    here.
 
-   Called: is_telling by record.h, watched.c, findings.c, heap/ and process/halt.c, in any thread, also in a handler; no
-   lock: one atomic. `above.tell` (state.h) then tells the program, or puts that off until no lock is held. */
+   Called: is_telling by record.h, watched.c, findings.c, heap/allocating.c and process/halt.c, in any thread, also
+   in a handler; no lock: one atomic. `above.tell` (state.h) then tells the program, or puts that off until no lock
+   is held. */
 #ifndef ASANCOL_TELLING_H
 #define ASANCOL_TELLING_H
 
