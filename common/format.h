@@ -220,8 +220,8 @@ enum side_skipped {
 };
 
 /* Whether it has ended itself by `halt`, at a report; and then whether it has printed that, or left that to the run,
-   whose text goes to the same file. */
-enum side_halted { HALTED_NOT, HALTED_AND_SAID, HALTED_UNSAID };
+   whose text goes to the same file, or waits for the words of the run to print these. */
+enum side_halted { HALTED_NOT, HALTED_AND_SAID, HALTED_UNSAID, HALTED_AND_ASKS };
 
 /* What its environment has set for it, beside the quarantine. */
 struct side_settings {

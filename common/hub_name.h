@@ -29,11 +29,15 @@ enum { MARK_SHORT_PROGRAM = 40 };
    process for its own answers with at least a byte: with the settings, each ended by a zero, as an environment has
    them. Then it closes.
 
+   A process that halts asks for its report in words before its recording ends. It comes once that is checked, unless
+   the process is to print its own.
+
    A program that started its own run tells with which status it ends, as of waitpid, in a second line. Once the verdict
    is printed it gets the status of the run in digits, or another text if its own applies. */
 #define ASK_SETTINGS "settings"
 #define ASK_UNSEEN "unseen"
 #define ASK_STATUS "status"
+#define ASK_REPORT "report"
 enum { ASK_MOST = 512, SETTINGS_MOST = 8192 };
 
 /* How many of its first bytes everybody may know: a secret follows a last dash in the folder of a run. The name of a

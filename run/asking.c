@@ -1,4 +1,5 @@
-/* An array of connections that have not asked yet, each with its deadline. */
+/* An array of connections that have not asked yet, each with its deadline; and one of those that have asked for their
+   reports, which have to wait for their checkers. */
 #define _GNU_SOURCE
 #include "asking.h"
 
@@ -25,6 +26,12 @@ static struct asker {
 } askers[ASKING_MOST];
 static size_t count;
 
+static struct {
+    int connection;
+    pid_t number;
+} waiting[ASKING_WAITING];
+static size_t waiting_count;
+
 double asking_polls(struct pollfd *polls, double seconds)
 {
     for (size_t i = 0; i < HUB_LISTENERS; i++)
@@ -47,6 +54,28 @@ static void answer(const struct asker *asker, const char *text, size_t length)
         return;
 }
 
+static bool has_hung_up(int connection)
+{
+    struct pollfd end = {connection, 0, 0};
+    return poll(&end, 1, 0) > 0;
+}
+
+/* Keeps one that wants its report. Nobody asks any more for that of a process that is gone. */
+static void keep_waiting(struct asker *asker)
+{
+    for (size_t i = waiting_count; i-- > 0;) {
+        if (!has_hung_up(waiting[i].connection))
+            continue;
+        close(waiting[i].connection);
+        waiting[i] = waiting[--waiting_count];
+    }
+    if (waiting_count == ASKING_WAITING)
+        return;
+    waiting[waiting_count].connection = asker->connection;
+    waiting[waiting_count++].number = asker->peer.pid;
+    asker->connection = -1;
+}
+
 /* Who is not known to be ours gets no settings; and of another user's process that is not, its word is refused with a
    line. */
 static void take_request(struct asker *asker, char *text)
@@ -63,6 +92,8 @@ static void take_request(struct asker *asker, char *text)
     enum peer whose = peer_judge_asker(&asker->peer);
     if (is_request(text, ASK_SETTINGS) && whose == PEER_OURS)
         answer(asker, settings, length);
+    if (is_request(text, ASK_REPORT) && whose == PEER_OURS)
+        keep_waiting(asker);
     if (!is_request(text, ASK_UNSEEN) || whose == PEER_OTHERS)
         return;
     if (whose != PEER_OURS) {
@@ -113,4 +144,37 @@ bool asking_is_any(void)
     struct pollfd polls[ASKING_POLLS];
     asking_polls(polls, 0);
     return count > 0 || poll(polls, HUB_LISTENERS, 0) > 0;
+}
+
+static int take_waiting(pid_t number)
+{
+    for (size_t i = 0; i < waiting_count; i++) {
+        int connection = waiting[i].connection;
+        if (waiting[i].number != number)
+            continue;
+        waiting[i] = waiting[--waiting_count];
+        return connection;
+    }
+    return -1;
+}
+
+/* It has asked before its recording ended, so its question is there, perhaps behind others. */
+int asking_of(pid_t number)
+{
+    enum { TURNS = 100 };
+    int connection = take_waiting(number);
+    for (int turn = 0; connection < 0 && turn < TURNS; turn++) {
+        struct pollfd polls[ASKING_POLLS];
+        asking_polls(polls, 0);
+        if (poll(polls, ASKING_POLLS, 0) <= 0)
+            break;
+        asking_take(polls);
+        connection = take_waiting(number);
+    }
+    return connection;
+}
+
+size_t asking_held(void)
+{
+    return waiting_count;
 }

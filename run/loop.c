@@ -105,7 +105,7 @@ static void hold_processes(void)
 
 static bool has_room(void)
 {
-    size_t held = run.base + HELD_BY_PROCESS * segment_live_count() + report_held() + modules_held();
+    size_t held = run.base + HELD_BY_PROCESS * segment_live_count() + report_held() + modules_held() + asking_held();
     return now() >= run.short_until && (segment_live_count() == 0 || held + HELD_BY_PROCESS <= run.descriptors);
 }
 

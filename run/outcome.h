@@ -36,7 +36,8 @@ struct outcome {
     bool is_closed_off;   /* it has closed its descriptors, that of its stream too */
     bool is_cut_at_limit; /* it is incomplete since it went on after the limit of events */
     bool has_halted;      /* it has ended itself at its first report, by ASANCOL_HALT: that is no crash; */
-    bool is_unsaid;       /* and has left it to us to print that */
+    bool is_unsaid;       /* and has left it to us to print that, */
+    bool asks_words;      /* or waits for its words to print them itself */
     bool is_crash;        /* the signal is one of a mistake, */
     bool is_ignored;      /* of which whoever has started it wants to hear nothing */
     bool was_replaced;    /* it did not end: another program runs in its place */

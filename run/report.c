@@ -16,6 +16,7 @@
 #include <time.h>
 #include <unistd.h>
 
+#include "asking.h"
 #include "children.h"
 #include "hub.h"
 #include "json.h"
@@ -29,6 +30,8 @@
 
 /* A packet has at most 65,536 bytes. So much of it may be the arguments of the command. */
 enum { MAX_RUN_ARGV = 40000, MAX_PROCESS_ARGV = 24000, MAX_ARGUMENTS = 1000, MAX_LINES = 6000 };
+/* The verdicts, the side memory, files of modules, and a process that waits for its words. */
+enum { MOST_DESCRIPTORS = 3 + SIDE_FILES };
 /* The lines printed if asancol-report cannot run. */
 enum { RAW_PROCESSES = 20, RAW_LINES = 20, RAW_BYTES = 8192 };
 
@@ -37,7 +40,7 @@ enum { RAW_PROCESSES = 20, RAW_LINES = 20, RAW_BYTES = 8192 };
 struct parcel {
     char *text;
     size_t length;
-    int descriptors[2 + SIDE_FILES], count;
+    int descriptors[MOST_DESCRIPTORS], count;
 };
 
 struct message {
@@ -228,8 +231,8 @@ static void put_file(FILE *to, const char *name, const char *path)
 }
 
 /* Data on a process; and of its segments the one whose descriptors come with it, if that is not null. This
-   many of these are files of modules. */
-static void put_process(FILE *to, struct process *process, const struct segment *segment, size_t files)
+   many of these are files of modules, and with `asks` the last one waits for its words. */
+static void put_process(FILE *to, struct process *process, const struct segment *segment, size_t files, bool asks)
 {
     struct outcome joined = segments_joined(process);
     fprintf(to, "{\"type\":\"process\",\"n\":%zu,\"pid\":%d,\"parent\":%d", process_number(process),
@@ -246,6 +249,8 @@ static void put_process(FILE *to, struct process *process, const struct segment 
     put_file(to, "kept", segments_kept(process));
     if (files > 0)
         fprintf(to, ",\"files\":%zu", files);
+    if (asks)
+        fputs(",\"asks\":true", to);
     fputc('}', to);
 }
 
@@ -318,8 +323,8 @@ static bool is_shown(const struct segment *segment)
     return outcome->reports > 0 || (has_more && segment->verdicts >= 0);
 }
 
-/* A message with the data of a segment. */
-static void show(struct segment *segment)
+/* A message with the data of a segment, and the connection on which its process waits for its words, or -1. */
+static void show(struct segment *segment, int asks)
 {
     struct parcel *parcel;
     int files[SIDE_FILES];
@@ -327,11 +332,13 @@ static void show(struct segment *segment)
     size_t count = modules_copy(&segment->modules, files);
     keep_words(segment->process);
     FILE *to = new_parcel(&parcel);
-    put_process(to, segment->process, segment, count);
+    put_process(to, segment->process, segment, count, asks >= 0);
     close_parcel(to);
     if (outcome_reports(&segment->outcome) > 0)
         keep_raw(segment);
     take_descriptors(parcel, segment, files, count);
+    if (asks >= 0)
+        parcel->descriptors[parcel->count++] = asks;
     report_start();
     enqueue(NULL, parcel);
 }
@@ -344,9 +351,14 @@ void report_again(struct process *process)
 
 void report_segment(struct segment *segment)
 {
-    if (is_shown(segment))
-        show(segment);
-    else if (!segments_are_several(segment->process)) /* what several come to is said once they are there */
+    int asks = segment->outcome.asks_words ? asking_of(segment->process->peer) : -1;
+    if (is_shown(segment)) {
+        show(segment, asks);
+        return;
+    }
+    if (asks >= 0)
+        close(asks); /* then it prints its own */
+    if (!segments_are_several(segment->process)) /* what several come to is said once they are there */
         report_again(segment->process);
 }
 
@@ -377,7 +389,7 @@ static struct parcel *parcel_of(struct message *message)
     if (message->parcel != NULL)
         return message->parcel;
     FILE *to = new_parcel(&message->parcel);
-    put_process(to, message->process, NULL, 0);
+    put_process(to, message->process, NULL, 0, false);
     close_parcel(to);
     return message->parcel;
 }
@@ -386,7 +398,7 @@ static struct parcel *parcel_of(struct message *message)
 static ssize_t send_one(const struct parcel *parcel)
 {
     union {
-        char room[CMSG_SPACE((2 + SIDE_FILES) * sizeof(int))];
+        char room[CMSG_SPACE(MOST_DESCRIPTORS * sizeof(int))];
         struct cmsghdr align;
     } control = {0};
     struct iovec piece = {parcel->text, parcel->length};

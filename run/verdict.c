@@ -350,6 +350,7 @@ static void read_side(struct segment *segment)
     uint32_t halted = side != NULL ? side_settings(side).has_halted : HALTED_NOT;
     outcome->has_halted = halted != HALTED_NOT;
     outcome->is_unsaid = halted == HALTED_UNSAID;
+    outcome->asks_words = halted == HALTED_AND_ASKS;
     struct side_progress progress = side != NULL ? side_progress(side) : (struct side_progress){0};
     read_findings(outcome, &progress, side != NULL ? side_entries(side) : 0); /* after the progress: both grow */
     outcome->stated = progress.stated < outcome->events ? progress.stated : outcome->events;

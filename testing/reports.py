@@ -148,7 +148,15 @@ class Feed:
         self.send({"type": "run", "version": 1, "command": ["make", "check"], "host": "box", "directory": "/tmp",
                    "id": identity, "time": 1700000000})
 
-    def process(self, number: int, verdicts: str = "", parts: Optional[Parts] = None,
+    def asking(self, number: int, verdicts: str, parts: Parts, is_gone: bool = False, **more: object) -> str:
+        """Gives data on a process that waits for its report in words, and returns these."""
+        waiting, asked = socket.socketpair()
+        with waiting:
+            self.process(number, verdicts, parts, asked.detach(), asks=True, **more)
+            waiting.settimeout(PATIENCE)
+            return "" if is_gone else b"".join(iter(lambda: waiting.recv(1 << 16), b"")).decode()
+
+    def process(self, number: int, verdicts: str = "", parts: Optional[Parts] = None, *others: int,
                 **more: object) -> None:
         lines = verdicts.count("\n") - 1 if verdicts else 0
         entry = {"type": "process", "n": number, "pid": 100 + number, "parent": 1, "fate": "closed", "events": 9,
@@ -156,7 +164,7 @@ class Feed:
         descriptors = [memory(verdicts.encode())] if verdicts else []
         if parts is not None:
             descriptors.append(fill(memory(), parts))
-        self.send(entry, *descriptors)
+        self.send(entry, *descriptors, *others)
 
     def end(self, **more: object) -> Ran:
         self.send({"type": "end", "seconds": 1.5, "status": 0, "signal": 0, "nothing": False, "missing": 0,

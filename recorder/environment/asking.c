@@ -46,24 +46,30 @@ static int connect_to(const char *hub, int *patience_ms)
     return result;
 }
 
-/* Reads up to the end. */
-static long read_answer(int descriptor, char *answer, size_t room, int patience_ms)
+long ask_read(int connection, char *bytes, size_t room, int *patience_ms)
 {
     enum { LOOK_MS = 100 };
+    for (;;) {
+        struct pollfd wait = {connection, POLLIN, 0};
+        ssize_t count = system_read(connection, bytes, room);
+        if (count >= 0 || (count != -EAGAIN && count != -EINTR))
+            return count;
+        if (*patience_ms <= 0)
+            return -ETIMEDOUT;
+        if (system_poll(&wait, 1, LOOK_MS) == 0)
+            *patience_ms -= LOOK_MS;
+    }
+}
+
+/* Reads up to the end. */
+static long read_answer(int connection, char *answer, size_t room, int patience_ms)
+{
     size_t length = 0;
     for (;;) {
-        struct pollfd wait = {descriptor, POLLIN, 0};
-        ssize_t count = system_read(descriptor, answer + length, room - length);
-        if (count == 0)
-            return (long)length;
-        if (count > 0)
-            length += (size_t)count;
-        else if (count != -EAGAIN && count != -EINTR)
-            return count;
-        else if (patience_ms <= 0)
-            return -ETIMEDOUT;
-        else if (system_poll(&wait, 1, LOOK_MS) == 0)
-            patience_ms -= LOOK_MS;
+        long count = ask_read(connection, answer + length, room - length, &patience_ms);
+        if (count <= 0)
+            return count < 0 ? count : (long)length;
+        length += (size_t)count;
     }
 }
 
@@ -80,16 +86,26 @@ long ask(const char *hub, const char *request, bool trusting, char *answer, size
     return ask_for(hub, request, trusting, answer, room, ASK_PATIENCE_MS);
 }
 
-long ask_for(const char *hub, const char *request, bool trusting, char *answer, size_t room, int patience_ms)
+int ask_begin(const char *hub, const char *request, bool trusting, int *patience_ms)
 {
-    int made = connect_to(hub, &patience_ms);
+    int made = connect_to(hub, patience_ms);
     if (made < 0)
         return made;
     long result = trusting && !is_trusted(made) ? -EACCES : 0;
     if (result == 0)
         result = system_send(made, request, strlen(request), MSG_NOSIGNAL);
     if (result > 0)
-        result = read_answer(made, answer, room, patience_ms);
+        return made;
+    system_close(made);
+    return result < 0 ? (int)result : -EPIPE;
+}
+
+long ask_for(const char *hub, const char *request, bool trusting, char *answer, size_t room, int patience_ms)
+{
+    int made = ask_begin(hub, request, trusting, &patience_ms);
+    if (made < 0)
+        return made;
+    long result = read_answer(made, answer, room, patience_ms);
     system_close(made);
     return result;
 }

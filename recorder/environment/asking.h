@@ -1,10 +1,10 @@
 /* Questions to the socket that listens beside a hub. A process that has lost its environment gets its settings there;
    one that is not recorded says so.
 
-   Called: by orphan.c and hub_word.c, is_asked_at by own_run.c, ask_for by root.c, and connect_patiently and is_trusted
-   by the stream (output.c), in programs and in shared objects; in any thread, also in a signal handler. Lock: it takes
-   none; the caller may have the allocator's and the stream's, and keeps them for as long as it waits. Nothing is
-   allocated. */
+   Called: by orphan.c and hub_word.c, is_asked_at by own_run.c, ask_for by root.c, ask_begin and ask_read by halt.c and
+   halt_report.c, and connect_patiently and is_trusted by the stream (output.c), in programs and in shared objects; in
+   any thread, also in a signal handler. Lock: it takes none; the caller may have the allocator's and the stream's, and
+   keeps them for as long as it waits. Nothing is allocated. */
 #ifndef ASANCOL_ASKING_H
 #define ASANCOL_ASKING_H
 
@@ -29,6 +29,10 @@ long ask(const char *hub, const char *request, bool trusting, char *answer, size
 /* The same, and waits so long. */
 long ask_for(const char *hub, const char *request, bool trusting, char *answer, size_t room, int patience_ms)
     OWN_NAME(ask_for);
+/* The two halves of that: the connection on which the answer comes, or an error below zero; and the next bytes of the
+   answer. Their number is 0 at its end, and below zero after an error. */
+int ask_begin(const char *hub, const char *request, bool trusting, int *patience_ms) OWN_NAME(ask_begin);
+long ask_read(int connection, char *bytes, size_t room, int *patience_ms) OWN_NAME(ask_read);
 /* Whether somebody listens there, as far as this process can see. */
 bool is_asked_at(const char *hub) OWN_NAME(is_asked_at);
 

@@ -18,6 +18,7 @@
 #include "leaks/leaks.h"
 #include "leaks/root_regions.h"
 #include "process/given.h"
+#include "process/halt.h"
 #include "process/process.h"
 #include "process/signals.h"
 #include "process/unchecked.h"
@@ -40,6 +41,7 @@ static void modules_changed(void)
 /* Answers the status with which the process is to end. */
 static int finish_at_exit(int status)
 {
+    halt_is_waited_for();
     recorder_exit(true);
     int of_run = root_end_at_exit((status & 0xff) << 8);
     return of_run != STATUS_STAYS ? of_run : status;

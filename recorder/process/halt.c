@@ -7,12 +7,15 @@
    A waiting preloaded recorder begins there too, and the process goes on. */
 #include "process/halt.h"
 
+#include <errno.h>
 #include <string.h>
 #include <sys/stat.h>
 
 #include "base/digits.h"
 #include "base/self.h"
 #include "base/system.h"
+#include "common/hub_name.h"
+#include "environment/asking.h"
 #include "process/halt_report.h"
 #include "process/process.h"
 #include "process/signals.h"
@@ -61,6 +64,16 @@ static bool is_left_to_run(void)
     return strcmp(file + length + 1, put_digits(digits + sizeof digits, seen.st_ino, 1)) == 0;
 }
 
+/* Asks the run for the report in words, while it is not yet there. Returns the connection, or an error below zero. */
+static int ask_for_words(int *patience_ms)
+{
+    const struct settings *settings = recorder_settings();
+    *patience_ms = settings->patience_ms;
+    if (settings->text == NULL || !is_on() || !is_hub())
+        return -ENOENT;
+    return ask_begin(recorder_hub(), ASK_REPORT, true, patience_ms);
+}
+
 /* Prints the report. The process does it by itself, since perhaps nobody else will: under a fuzzer there is no
    asancol-report. */
 static void say_what(enum code code, unsigned width, uint64_t address, uintptr_t caller, const struct access *whole)
@@ -69,8 +82,32 @@ static void say_what(enum code code, unsigned width, uint64_t address, uintptr_t
     halt_report(whole != NULL ? whole : &alone, width, address);
 }
 
-/* The thread that ends the process, after the number of that process; 0: none. */
+/* The thread that ends the process, after the number of that process; 0: none. And whether it waits for its words. */
 static _Atomic uint64_t halting;
+static _Atomic bool is_waiting;
+
+/* Not for ever: a handler may have jumped out of the wait. */
+void halt_is_waited_for(void)
+{
+    enum { SPAN_MS = 10 };
+    const struct timespec span = {.tv_nsec = SPAN_MS * 1000 * 1000};
+    uint64_t own = (uint64_t)self_process() << 32 | (uint32_t)system_gettid();
+    for (int left = recorder_settings()->patience_ms; left > 0 && atomic_load(&is_waiting); left -= SPAN_MS) {
+        uint64_t other = atomic_load(&halting);
+        if (other == own || other >> 32 != own >> 32 || !recorder_is_own_process())
+            break;
+        system_nanosleep(&span);
+    }
+}
+
+/* Prints the words of the run. The program may not exit meanwhile: its status is that of the halt. */
+static bool print_words(int words, int patience_ms)
+{
+    atomic_store(&is_waiting, true);
+    bool came = halt_report_of_run(words, patience_ms);
+    atomic_store(&is_waiting, false);
+    return came;
+}
 
 /* Another thread that is here already ends the process: this one waits for that, as it might end the process first, and
    well. But not for ever: a handler of the program may have taken that thread back from SIGABRT. */
@@ -83,8 +120,10 @@ static bool is_first_to_halt(void)
     while (before >> 32 != process >> 32)
         if (atomic_compare_exchange_weak(&halting, &before, own))
             return true;
-    for (unsigned i = 0; before != own && i < SPANS; i++)
+    for (unsigned i = 0; before != own && i < SPANS; i++) {
+        halt_is_waited_for();
         system_nanosleep(&span);
+    }
     if (before != own)
         atomic_store(&halt_is_on, false);
     return false;
@@ -106,9 +145,10 @@ void halt_at(enum code code, unsigned width, uint64_t address, uintptr_t caller,
     if (recorder_begins_late() && recorder_begin_late())
         record(code, width, address, caller, whole);
     bool is_left = is_left_to_run();
-    side_note_halted(is_left ? HALTED_UNSAID : HALTED_AND_SAID);
+    int patience_ms, words = is_left ? -ENOENT : ask_for_words(&patience_ms);
+    side_note_halted(is_left ? HALTED_UNSAID : words >= 0 ? HALTED_AND_ASKS : HALTED_AND_SAID);
     recorder_finish(FINISH_CLOSED);
-    if (!is_left || !side_is_at_exit())
+    if (!side_is_at_exit() || (!is_left && !print_words(words, patience_ms)))
         say_what(code, width, address, caller, whole);
     if (is_telling() && code == CODE_FREE)
         above.tell(&(struct told){.code = code, .caller = caller, .address = address, .call = whole->call});

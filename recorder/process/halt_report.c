@@ -1,5 +1,5 @@
-/* The report of a process that ends by ASANCOL_HALT. There is no symbolizer in the process: frames are modules and
-   offsets, as tools know them from AddressSanitizer. Its class is by the shadow. */
+/* The report of a process that ends by ASANCOL_HALT. There is no symbolizer in the process: unless its run gives it the
+   words, frames are modules and offsets, as tools know them from AddressSanitizer, and its class is by the shadow. */
 #define _GNU_SOURCE
 #include "process/halt_report.h"
 
@@ -18,6 +18,7 @@
 #include "base/platform.h"
 #include "base/system.h"
 #include "environment/asan_options.h"
+#include "environment/asking.h"
 #include "libc/library.h"
 #include "heap/arena.h"
 #include "shadow/shadow.h"
@@ -334,6 +335,38 @@ static int open_target(void)
     return target >= 0 ? target : STDERR_FILENO;
 }
 
+static void close_target(void)
+{
+    if (text.descriptor != halt_report_descriptor() && text.descriptor != STDERR_FILENO)
+        system_close(text.descriptor);
+}
+
+static void pass_on(size_t length, bool is_first)
+{
+    struct disturbance before;
+    undisturbed_begin(&before);
+    if (is_first)
+        text.descriptor = open_target();
+    text.length = length;
+    flush();
+    undisturbed_end(&before);
+}
+
+/* Signals come through while it waits. */
+bool halt_report_of_run(int connection, int patience_ms)
+{
+    bool came = false;
+    long count;
+    if (connection < 0)
+        return false;
+    for (; (count = ask_read(connection, text.bytes, sizeof text.bytes, &patience_ms)) > 0; came = true)
+        pass_on((size_t)count, !came);
+    if (came)
+        close_target();
+    system_close(connection);
+    return came;
+}
+
 void halt_report(const struct access *access, unsigned width, uint64_t address)
 {
     struct disturbance before;
@@ -353,7 +386,6 @@ void halt_report(const struct access *access, unsigned width, uint64_t address)
     put_block(bad, &block);
     put_end(class, of);
     flush();
-    if (text.descriptor != halt_report_descriptor() && text.descriptor != STDERR_FILENO)
-        system_close(text.descriptor);
+    close_target();
     undisturbed_end(&before);
 }

@@ -46,6 +46,8 @@ static void end_at_exit(bool is_last)
 {
     bool is_own = recorder_is_own_process();
     if (is_own)
+        halt_is_waited_for();
+    if (is_own)
         heap_ends_here();
     if (is_last)
         leaks_look_at_end();
@@ -82,6 +84,7 @@ static void after_destructors(void)
 static void after_quick_handlers(void *unused)
 {
     (void)unused;
+    halt_is_waited_for();
     recorder_exit(true);
     int of_run = root_end_at_exit(0); /* the C library tells no status here */
     if (of_run != STATUS_STAYS)

@@ -82,11 +82,12 @@ class Crashed(NamedTuple):
 class Came:
     """The latest input: findings as their process has them, and processes that a signal has ended."""
 
-    __slots__ = ("findings", "processes")
+    __slots__ = ("findings", "processes", "asks")
 
     def __init__(self) -> None:
         self.findings: List[Finding] = []
         self.processes: List[Process] = []
+        self.asks: Optional[int] = None  # a socket on which a process that has halted waits for its report
 
 
 class Gatherer:

@@ -6,6 +6,7 @@ from __future__ import annotations
 import json
 import os
 import socket
+from contextlib import suppress
 from typing import Callable, Dict, List, Optional, Set
 
 from .errors import Broken, reason
@@ -125,14 +126,17 @@ class Hub:
         processes[process.number] = without_reports(process) if process.number in self.lost else process
         if not descriptors or self.gatherer is None or process.number >= MAX_PROCESSES:
             return
+        asks = descriptors.pop() if entry.get("asks") is True and len(descriptors) > 1 else None
         files = min(number_of(entry.get("files")), len(descriptors) - 1)
         end = len(descriptors) - files
         for each in descriptors[end:]:
             self.gatherer.modules.give(each)
         side = self.side_of(text_of(entry.get("trace")), descriptors[1:end])
-        if process.is_unsaid:
+        is_printed = process.is_unsaid or asks is not None
+        if is_printed:
             self.gatherer.finish()
-        self.gatherer.is_each_kept = process.is_unsaid
+        self.gatherer.is_each_kept = is_printed
+        self.gatherer.came.asks = asks
         try:
             self.gatherer.take(process.number, process.pid, descriptors[0], side, segment or 1)
         finally:
@@ -150,6 +154,12 @@ class Hub:
             return Side(os.dup(descriptors[0])) if descriptors else Side.open(trace + ".where") if trace else None
         except (OSError, ValueError):
             return None
+
+
+def answer(connection: int, text: str) -> None:
+    """Gives a process that waits its report. It may be gone, or stand still: then nobody waits for it."""
+    with socket.socket(fileno=os.dup(connection)) as waiting, suppress(OSError):
+        waiting.send(text.encode(errors="surrogateescape"), socket.MSG_DONTWAIT | socket.MSG_NOSIGNAL)
 
 
 def find_run(beside: str) -> str:

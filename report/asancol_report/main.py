@@ -241,9 +241,13 @@ class Report:
 
     def come(self, gatherer: Gatherer, process: Process) -> None:
         """Prints what a process has left to its run, and new places, if they are to be printed at once."""
-        if not self.is_live and self.log is None and not process.is_unsaid:
+        asks = gatherer.came.asks
+        if not self.is_live and self.log is None and not process.is_unsaid and asks is None:
             return
         new = gatherer.finish()
+        if asks is not None:
+            from .hub import answer
+            answer(asks, self.halted_text(gatherer.came.findings))
         if process.is_unsaid and not self.is_log_alone:
             self.print_halted(gatherer.came.findings)
         if self.log is not None:
@@ -259,14 +263,19 @@ class Report:
         self.flush()
 
     def print_halted(self, findings: List[Finding]) -> None:
-        """Prints the reports of a process that has halted, in the words that it would have printed."""
-        from .asan_text import AsanText
+        """Prints the reports of a process that has halted."""
         counted = [finding for finding in findings if self.counts(finding)]
         for finding in counted:
             self.text.shown[finding.place] = self.text.shown.get(finding.place, 0) + 1
-        text = AsanText(sys.stdout, Colors(False), self.root, False)
-        text.write(text.findings_text(sorted(counted, key=lambda it: it.order), self.results))
+        sys.stdout.write(self.halted_text(counted))
         self.flush()
+
+    def halted_text(self, findings: List[Finding]) -> str:
+        """Returns the reports of a process that has halted, in the words that it would have printed."""
+        from .asan_text import AsanText
+        text = AsanText(sys.stdout, Colors(False), self.root, False)
+        lines = text.findings_text(sorted(findings, key=lambda it: it.order), self.results)
+        return "".join(f"{line}\n" for line in lines)
 
     def judge(self) -> None:
         self.results.place_crashes(self.sources)

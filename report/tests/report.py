@@ -472,6 +472,27 @@ def halted_process_is_printed_at_once(folder: str) -> None:
 
 
 @report_test
+def halted_process_gets_its_words(folder: str) -> None:
+    """If it waits for them, beside what else comes with it, and even if nobody wants to see it. One that is gone, or
+    reads nothing, holds nobody up."""
+    program = build(folder)
+    parts = of_program(program, [freed_block(program)], [0, 0, 0, 0, 1])
+    with open(f"{folder}/rules", "w", encoding="utf-8") as file:
+        file.write("at:heap-use-after-free:use\n")
+    for words in ((), ("--suppressions", "rules"), ("--live",)):
+        feed = Feed(folder, *words, "--source-root", ".")
+        feed.begin()
+        texts = [feed.asking(number, FREED + END, parts, halted=True) for number in (0, 1)]
+        for number, text in enumerate(texts):
+            expect_in(text, f"=={100 + number}==ERROR: AddressSanitizer: heap-use-after-free on address ",
+                      " in use program.c:7", "freed by thread ", f"=={100 + number}==ABORTING\n")
+        feed.asking(2, FREED + END, parts, is_gone=True, halted=True)
+        ran = feed.end()
+        expect_not_in(ran.out, "AddressSanitizer")
+        expect_in(ran.out, "3 suppressed" if "rules" in words else "asancol: 3 reports at 1 place; 3 processes, ")
+
+
+@report_test
 def side_memory_lies(folder: str) -> None:
     """Whatever stands there, there is a report and no more. If it says that an event is a further piece of the one
     before, the two count as one."""

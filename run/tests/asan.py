@@ -140,8 +140,8 @@ def check_death_test(suite: Suite, folder: str) -> None:
 
 
 def check_halts(suite: Suite, folder: str) -> None:
-    """A report at which a process has halted stands once in each file: with functions and lines by the run, or by the
-    process itself, if its standard error is another file."""
+    """A report at which a process has halted stands once in each file, with functions and lines: printed by the run,
+    or by the process itself, if its standard error is another file."""
     halts = {"ASAN_OPTIONS": "halt_on_error=1", "ASANCOL_REPORT": REPORT}
     past = f"{suite.program} past"
 
@@ -165,8 +165,12 @@ def check_halts(suite: Suite, folder: str) -> None:
         own = ran.err if "--log-file" in argv else read(f"{folder}/e")
         ours = ran.err if own is not ran.err else read(f"{folder}/log")
         expect((own.count("ERROR: "), own.count(HALTED), ours.count("ERROR: "), ours.count(HALTED)), (1, 1, 1, 0), ours)
-        expect_not_in(own, "store_past")
+        expect_in(own, " in store_past /", "allocated by thread T0 here:\n    #0 0x", "==ABORTING\n")
         expect_in(ours, PAST, "in store_past ")
+    ran = suite.run("--", "env", f"ASAN_OPTIONS=halt_on_error=1:log_path={folder}/alone", *past.split(),
+                    ASANCOL_REPORT=REPORT)
+    (alone,) = glob.glob(f"{folder}/alone.*")
+    expect((read(alone).count(HALTED), read(alone).count(" in store_past /")), (1, 1), read(alone))
     result = f"{folder}/r"
     line = f"{past}; {past}; {past} 2> {folder}/e"
     ran = suite.run("--json", result, "--keep", f"{folder}/kept", "--", "sh", "-c", line, **halts)
@@ -176,9 +180,37 @@ def check_halts(suite: Suite, folder: str) -> None:
         expect_in(suite.run_argv([REPORT, *argv]).out, PAST, " (3 times, 3 processes)\n", "in store_past ")
     ran = suite.run("--", *past.split(), ASAN_OPTIONS="halt_on_error=1", ASANCOL_REPORT="/nonexistent/report")
     expect(texts(ran), (1, 1), "asancol-report is not there")
+    ran = suite.run("--", "sh", "-c", f"{past} 2> {folder}/e", ASAN_OPTIONS="halt_on_error=1",
+                    ASANCOL_REPORT="/nonexistent/report")
+    expect_not_in(read(f"{folder}/e"), "store_past")
+    expect(read(f"{folder}/e").count(HALTED), 1, "the process's own text")
     write_text(f"{folder}/known", "at:heap-buffer-overflow:store_past\n")
     ran = suite.run("--suppressions", f"{folder}/known", "--", *past.split(), **halts)
     expect(texts(ran, -signal.SIGABRT), (0, 0), ran.err)
+
+
+THREADED = """
+#include <pthread.h>
+#include <stdlib.h>
+#include <unistd.h>
+static void *past(void *block) { ((volatile char *)block)[3] = 1; return 0; }
+int main(void) {
+    pthread_t thread;
+    pthread_create(&thread, 0, past, malloc(3));
+    usleep(50000);
+    return 0; }
+"""
+
+
+def check_exit_at_halt(suite: Suite, folder: str) -> None:
+    """While a thread that has halted waits for the text of its report, another one does not end the process."""
+    write_text(f"{folder}/t.c", THREADED)
+    call([f"{TOP}/recorder/asancol-cc", "-g", "-w", "-pthread", "t.c", "-o", "t"], cwd=folder, check=True)
+    ran = suite.run("--", "sh", "-c", f"{folder}/t 2> {folder}/e; echo $?", ASAN_OPTIONS="halt_on_error=1",
+                    ASANCOL_REPORT=REPORT)
+    with open(f"{folder}/e", encoding="utf-8") as file:
+        expect_in(file.read(), HALTED, " in past /", "ABORTING")
+    expect(ran.out, f"{128 + signal.SIGABRT}\n", ran.err)
 
 
 def check_log_path(suite: Suite, folder: str) -> None:
@@ -324,6 +356,7 @@ def tests(suite: Suite) -> None:
     for name, run in (
         ("statuses", check_statuses), ("named", check_named), ("leaks", check_leaks), ("functions", check_functions),
         ("death test", check_death_test), ("halts", check_halts), ("halts at once", check_at_once),
+        ("exit at a halt", check_exit_at_halt),
         ("log path", check_log_path),
         ("mismatches", check_mismatches), ("mistakes", check_mistakes), ("same options", check_same_options),
         ("relative suppressions", check_relative_rules), ("fates", check_fates),
