@@ -9,5 +9,5 @@ TEST(TextDeathTest, Overflow)
 
 TEST(TextDeathTest, Freed)
 {
-    EXPECT_DEATH(first_of_freed("freed"), "AddressSanitizer: heap-use-after-free");
+    EXPECT_DEATH(first_of_freed("freed"), "AddressSanitizer: heap-use-after-free.* in first_of_freed .*text\\.c:[0-9]");
 }
