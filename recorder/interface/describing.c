@@ -14,6 +14,7 @@
 #include "libc/library.h"
 #include "heap/arena.h"
 #include "shadow/globals.h"
+#include "shadow/mapping.h"
 #include "shadow/shadow.h"
 #include "stacks/frames.h"
 #include "stacks/own_stack.h"
@@ -192,7 +193,7 @@ const char *locate(uintptr_t address, char *name, size_t room, uintptr_t *start,
         *start = found.start;
     if (size != NULL)
         *size = found.size;
-    return words[found.what];
+    return found.what == IN_SHADOW && is_in_guard(address) ? "shadow gap" : words[found.what];
 }
 
 size_t stack_of_block(uintptr_t address, bool of_free, uintptr_t *frames, size_t room, int *thread)

@@ -107,6 +107,7 @@ static void addresses(void)
     locate("after a global", table + 12, table);
     locate("nowhere", (char *)16, NULL);
     locate("shadow", (char *)0x7fff8000, NULL);
+    locate("the shadow of the shadow", (char *)0x7fff8000 + 0x7fff8000 / 8, NULL);
     is_in("malloc", (void *)make, frames, __asan_get_alloc_stack(made, frames, 8, &thread));
     printf("free: %zu, thread %d\n", __asan_get_free_stack(made, frames, 8, &thread), thread);
     drop(made);

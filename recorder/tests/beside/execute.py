@@ -210,7 +210,7 @@ def execute(way: str, argv: Sequence[str], folder: str, notes: str, stdout: Any 
         with contextlib.suppress(FileNotFoundError):
             os.unlink(result)
     if way == "text":
-        all_settings["ASANCOL_HALT"] = "0" if "halt_on_error=0" in options else "1"
+        all_settings["ASANCOL_HALT"] = "0" if re.search("halt_on_error=(0|false)", options) else "1"
         argv = [argv[0], "--log-path", f"{notes}/log", *argv[1:]]
     status, errors = run(argv, folder, all_settings, stdout)
     if way == "text":
