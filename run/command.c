@@ -108,18 +108,17 @@ static unsigned long marked_slack(const char *hub)
     return length > 0 && slack >= SLACK_STEP ? slack_for(hub, length, (unsigned long)slack) : 0;
 }
 
-/* That of the command, made of a copy of ours. */
+/* That of the command. Ours becomes a copy: setenv may free the array that it made earlier. */
 static char **environment_for(const struct options *options, const char *hub)
 {
-    char **before = environ;
     size_t count = 0;
-    while (before[count] != NULL)
+    while (environ[count] != NULL)
         count++;
-    environ = must(calloc(count + 1, sizeof *environ));
-    memcpy(environ, before, count * sizeof *environ);
+    char **ours = must(calloc(count + 1, sizeof *ours));
+    memcpy(ours, environ, count * sizeof *ours);
     set_environment(options, hub);
     char **made = environ;
-    environ = before;
+    environ = ours;
     return made;
 }
 

@@ -48,7 +48,7 @@ def find_tool() -> Tuple[Optional[str], str]:
     if named:
         return on_path(named), f"{named}, which ASANCOL_SYMBOLIZER names, was not found"
     versions = [f"{LLVM}-{version}" for version in range(NEWEST_LLVM, OLDEST_LLVM - 1, -1)]
-    for name in [LLVM, *versions, "addr2line"]:
+    for name in [os.environ.get("ASAN_SYMBOLIZER_PATH") or LLVM, LLVM, *versions, "addr2line"]:
         path = on_path(name)
         if path:
             return path, ""

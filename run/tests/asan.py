@@ -55,6 +55,18 @@ def check_named(suite: Suite, folder: str) -> None:
     expect_ran(suite.run("-q", "--", suite.program, "sound", ASAN_OPTIONS=words), 0, absent=["asancol"])
 
 
+def check_symbolizer(suite: Suite, folder: str) -> None:
+    """Both ways to name AddressSanitizer's symbolizer are read. One that is missing costs no lines."""
+    finder = f"{folder}/finder"
+    write_text(finder, '#!/bin/sh\n: > "$0.ran"\nexec addr2line "$@"\n')
+    os.chmod(finder, 0o755)
+    for name, value in (("ASAN_OPTIONS", f"external_symbolizer_path={finder}"), ("ASAN_SYMBOLIZER_PATH", finder)):
+        expect_ran(suite.run("--", suite.program, "past", ASANCOL_REPORT=REPORT, **{name: value}), 99, "in store_past ")
+        os.remove(f"{finder}.ran")
+    ran = suite.run("--", suite.program, "past", ASANCOL_REPORT=REPORT, ASAN_SYMBOLIZER_PATH=f"{folder}/none")
+    expect_ran(ran, 99, "in store_past ", absent=["none"])
+
+
 def check_leaks(suite: Suite, folder: str) -> None:
     program = make(folder, "gcc")
 
@@ -354,9 +366,9 @@ def tests(suite: Suite) -> None:
         leave_out("asan: the variables are asancol-run's own")
         return
     for name, run in (
-        ("statuses", check_statuses), ("named", check_named), ("leaks", check_leaks), ("functions", check_functions),
-        ("death test", check_death_test), ("halts", check_halts), ("halts at once", check_at_once),
-        ("exit at a halt", check_exit_at_halt),
+        ("statuses", check_statuses), ("named", check_named), ("symbolizer", check_symbolizer),
+        ("leaks", check_leaks), ("functions", check_functions), ("death test", check_death_test),
+        ("halts", check_halts), ("halts at once", check_at_once), ("exit at a halt", check_exit_at_halt),
         ("log path", check_log_path),
         ("mismatches", check_mismatches), ("mistakes", check_mistakes), ("same options", check_same_options),
         ("relative suppressions", check_relative_rules), ("fates", check_fates),
