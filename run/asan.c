@@ -154,6 +154,33 @@ static enum done take_log(struct options *options, const char *path)
     return done;
 }
 
+static enum done take_verbosity(struct options *options, const struct asan_word *word)
+{
+    uint64_t level;
+    if (!asan_number(word, &level))
+        return WITHOUT_EFFECT;
+    options->verbose |= level > 0;
+    return level > 0 ? TAKEN : HARMLESS;
+}
+
+/* Prints the names of the options that are taken, as AddressSanitizer does: at the start, one a line. */
+static enum done take_help(const struct asan_word *word)
+{
+    static const char *const taken[] = {
+#define OPTION(name, fate, value, here) \
+    ASAN_IS_##fate == ASAN_IS_RUN || ASAN_IS_##fate == ASAN_IS_PROCESS ? #name : NULL,
+#include "common/asan_options.def"
+#undef OPTION
+    };
+    if (!asan_is_yes(word))
+        return asan_is_no(word) ? HARMLESS : WITHOUT_EFFECT;
+    fputs("asancol: ASAN_OPTIONS and LSAN_OPTIONS can have these options, which docs/ASAN.md explains:\n", stderr);
+    for (size_t i = 0; i < sizeof taken / sizeof *taken; i++)
+        if (taken[i] != NULL)
+            fprintf(stderr, "\t%s\n", taken[i]);
+    return TAKEN;
+}
+
 /* Gives our own option for it its value. */
 static enum done take_for_run(struct options *options, const struct asan_word *word)
 {
@@ -173,6 +200,10 @@ static enum done take_for_run(struct options *options, const struct asan_word *w
         return take_symbolizer(value_of(word));
     case ASAN_strip_path_prefix:
         return take_prefix(options, value_of(word));
+    case ASAN_verbosity:
+        return take_verbosity(options, word);
+    case ASAN_help:
+        return take_help(word);
     default:
         return take_log(options, value_of(word));
     }

@@ -154,12 +154,12 @@ static void add_line(const char *front, const char *text, size_t length, const c
 }
 
 /* An option of the run that has no effect if a single process gives it. Of the others of the run, a process can turn
-   leaks off for itself and set its own quarantine, and two change only how reports are shown. */
+   leaks off for itself and set its own quarantine, and the rest change only the output. */
 static bool is_of_run_alone(const struct asan_word *word)
 {
     return word->fate == ASAN_IS_RUN && word->option != ASAN_detect_leaks && word->option != ASAN_quarantine_size_mb
            && word->option != ASAN_quarantine_size && word->option != ASAN_external_symbolizer_path
-           && word->option != ASAN_strip_path_prefix;
+           && word->option != ASAN_strip_path_prefix && word->option != ASAN_verbosity && word->option != ASAN_help;
 }
 
 /* Adds the options of a text that have no effect. asancol-run names those of the environment itself (run/asan.c), so

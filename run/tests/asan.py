@@ -55,6 +55,17 @@ def check_named(suite: Suite, folder: str) -> None:
     expect_ran(suite.run("-q", "--", suite.program, "sound", ASAN_OPTIONS=words), 0, absent=["asancol"])
 
 
+def check_asked(suite: Suite, folder: str) -> None:
+    """A user who asks whether anything is checked, and what can be set, gets an answer, also from a quiet run."""
+    def ran(**settings: str) -> Ran:
+        return suite.run("-q", "--", suite.program, "sound", ASANCOL_REPORT=REPORT, **settings)
+    for name in ("ASAN_OPTIONS", "LSAN_OPTIONS"):
+        expect_ran(ran(**{name: "verbosity=1"}), 0, f"asancol: {name}: taken: verbosity=1\n", ": complete, ")
+        names = {it for it, fate, _ in table() if fate in ("RUN", "PROCESS")}
+        expect(set(re.findall(r"^\t(\w+)$", ran(**{name: "help=1"}).err, re.M)), names, "the options of the help")
+    expect_ran(ran(ASAN_OPTIONS="verbosity=0:help=0"), 0, absent=["asancol"])
+
+
 def check_symbolizer(suite: Suite, folder: str) -> None:
     """Both ways to name AddressSanitizer's symbolizer are read. One that is missing costs no lines."""
     finder = f"{folder}/finder"
@@ -108,7 +119,8 @@ def check_relative_rules(suite: Suite, folder: str) -> None:
 
 OF_PROGRAM = """
 const char *__asan_default_options(void) {
-    return "alloc_dealloc_mismatch=0:quarantine_size_mb=3:start_deactivated=1:symbolize=0:detect_leaks=DETECT"; }
+    return "alloc_dealloc_mismatch=0:quarantine_size_mb=3:start_deactivated=1:symbolize=0:help=1:"
+           "detect_leaks=DETECT"; }
 const char *__lsan_default_suppressions(void) { return "# known\\nleak:^lose$\\n"; }
 """
 
@@ -272,7 +284,7 @@ def check_functions(suite: Suite, folder: str) -> None:
         program = make(folder, "gcc", PROGRAM + OF_PROGRAM.replace("DETECT", leaks))
         ran = suite.run(f"--leaks={option}", "--", program, ASANCOL_REPORT=REPORT)
         expect_ran(ran, 0, text, "start_deactivated=1 (__asan_default_options)", "families and sizes of frees",
-                   absent=["symbolize", "asancol: leaks:"])
+                   absent=["symbolize", "help", "asancol: leaks:"])
 
 
 MISMATCHES = """
@@ -366,7 +378,7 @@ def tests(suite: Suite) -> None:
         leave_out("asan: the variables are asancol-run's own")
         return
     for name, run in (
-        ("statuses", check_statuses), ("named", check_named), ("symbolizer", check_symbolizer),
+        ("statuses", check_statuses), ("named", check_named), ("asked", check_asked), ("symbolizer", check_symbolizer),
         ("leaks", check_leaks), ("functions", check_functions), ("death test", check_death_test),
         ("halts", check_halts), ("halts at once", check_at_once), ("exit at a halt", check_exit_at_halt),
         ("log path", check_log_path),
