@@ -53,6 +53,8 @@ Bases = Dict[str, int]
 class AsanText(Text):
     """Writes findings as AddressSanitizer would. Each stands by itself, and the leaks of a process under one head."""
 
+    for_leaks = "ASAN_OPTIONS=detect_leaks=1"
+
     def findings_text(self, findings: Iterable[Finding], results: Results) -> Iterator[str]:
         """Yields all of these: each by itself, and then the leaks of each process."""
         leaks: Dict[int, List[Finding]] = {}

@@ -36,6 +36,8 @@ class Colors:
 class Text:
     """Writes a report, all at once or finding by finding."""
 
+    for_leaks = "--leaks=yes"
+
     def __init__(self, out: TextIO, colors: Colors, root: str, has_suppressions: bool, has_all_frames: bool = False,
                  has_shadow: bool = False, elsewhere: str = "") -> None:
         self.out = out
@@ -202,7 +204,7 @@ class Text:
         yield f"{self.colors.bold}{totals_line(results)}{self.colors.off}"
         totals = results.totals()
         if totals.leaks.places:
-            yield f"asancol: {text_of_runs(run.leaks for run in results.runs)}; --leaks=yes shows them"
+            yield f"asancol: {text_of_runs(run.leaks for run in results.runs)}; {self.for_leaks} shows them"
         if totals.crashes_awaited:
             yield f"asancol: {awaited_text(totals.crashes_awaited)}"
         for rule in results.unused:

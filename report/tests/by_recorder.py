@@ -199,6 +199,7 @@ def rules(folder: str) -> None:
         expect((ran.status, ran.out.endswith(text)), (0, True), ran.out)
         again = report(folder, "c.json", "c.json")
         expect((again.status, again.out), (0, ran.out), "read again")
+        expect_in(report(folder, "c.json", "--format=asan").out, "; ASAN_OPTIONS=detect_leaks=1 shows them\n")
     ran = report(folder, "--trace", "b.trace", "--leaks=no")
     expect((ran.status, "leak" in ran.out), (0, False), ran.out)
     ran = report(folder, "b.json", "a.json", "--baseline", "a.json")

@@ -47,6 +47,30 @@ def check_without(suite: Suite, folder: str) -> None:
         expect_ran(run_alone(suite, suite.program, "past", ASANCOL_RUN=value), 0, absent=["asancol"])
 
 
+LOSES = """
+#include <stdlib.h>
+void *volatile kept;
+int main(int count, char **argv) {
+    int *volatile freed = malloc(40);
+    free(freed);
+    kept = malloc(30);
+    kept = NULL;
+    return (void)argv, count > 1 ? freed[3] : 0; }
+"""
+
+
+def check_leaks(suite: Suite, folder: str) -> None:
+    """Leaks alone are not mentioned, unless they are asked for. After a report a line tells how to do that."""
+    write_text(f"{folder}/l.c", LOSES)
+    call([CC, "-g", "-w", "l.c", "-o", "l"], cwd=folder, check=True)
+    expect_ran(run_alone(suite, f"{folder}/l"), 0, absent=["asancol"])
+    expect_ran(run_alone(suite, f"{folder}/l", ASAN_OPTIONS="detect_leaks=1"), 99, "Direct leak of 30 byte(s)")
+    summed = "asancol: leaks: 30 bytes in 1 block at 1 place;"
+    expect_ran(run_alone(suite, f"{folder}/l", "more"), 99, f"{summed} --leaks=yes shows them\n")
+    ran = run_alone(suite, f"{folder}/l", "more", ASAN_OPTIONS="check_printf=1")
+    expect_ran(ran, 99, f"{summed} ASAN_OPTIONS=detect_leaks=1 shows them\n")
+
+
 PROGRAM = """
 #include <stdlib.h>
 #include <string.h>
@@ -311,10 +335,10 @@ def check_terminal(suite: Suite, folder: str) -> None:
 
 def tests(suite: Suite) -> None:
     for name, run in (
-        ("statuses", check_statuses), ("without asancol-run", check_without), ("static", check_static),
-        ("linked", check_linked), ("place", check_place), ("streams", check_streams), ("closed", check_closed),
-        ("ways out", check_ways_out), ("afterwards", check_afterwards), ("ended", check_ended),
-        ("ended at the verdict", check_ended_at_verdict),
-        ("daemon", check_daemon), ("habits", check_habits), ("on a terminal", check_terminal),
+        ("statuses", check_statuses), ("leaks", check_leaks), ("without asancol-run", check_without),
+        ("static", check_static), ("linked", check_linked), ("place", check_place), ("streams", check_streams),
+        ("closed", check_closed), ("ways out", check_ways_out), ("afterwards", check_afterwards),
+        ("ended", check_ended), ("ended at the verdict", check_ended_at_verdict), ("daemon", check_daemon),
+        ("habits", check_habits), ("on a terminal", check_terminal),
     ):
         suite.test(f"own run: {name}", run)
