@@ -26,6 +26,7 @@ use Rattle.asan_plan.specs.Books.{IsBookOf}
 use Rattle.asan_plan.specs.Plans.{Writes, writes_none, unpoisons, poisons, parts, mallocs, covers, mallocs_and_frees}
 use Rattle.asan_plan.specs.Plans.{frees, entry_after, entries_after, held_after, IsPlanned, IsOfBytes}
 use Rattle.asan_plan.specs.Accesses.{IsSeen, PoisonStaysThere, WritesBoth, BringsBoth, IsPlannedAccess}
+use Rattle.asan_plan.specs.Recorders.{StatesOfProcess}
 use Rattle.asan_plan.proofs.Laws.{Laws}
 use Rattle.asan_plan.proofs.Lists.{map_same}
 use Rattle.asan_plan.proofs.Plans.{brings}
@@ -33,7 +34,7 @@ use Rattle.asan_plan.proofs.Shades.{poison_beside, unpoison_beside}
 
 -- ---- a plan that poisons and unpoisons a granule at most
 
-of_bytes_planned : (entries : List Entry) (room : Room) (granule shadow : ℕ) (p : Plan)
+pub of_bytes_planned : (entries : List Entry) (room : Room) (granule shadow : ℕ) (p : Plan)
     → IsOfBytes entries granule shadow p → IsPlanned entries room granule shadow p
 of_bytes_planned entries room granule shadow plan.Nothing is = is
 of_bytes_planned entries room granule shadow (plan.Bytes count) is = is
@@ -43,10 +44,21 @@ of_bytes_planned entries room granule shadow (plan.Free b) is = absurd is
 of_bytes_planned entries room granule shadow (plan.Cover b) is = absurd is
 of_bytes_planned entries room granule shadow plan.Impossible is = absurd is
 
+-- it states no block
+pub of_bytes_states : (entries : List Entry) (granule shadow : ℕ) (run : List Step) (p : Plan)
+    → IsOfBytes entries granule shadow p → StatesOfProcess run p
+of_bytes_states entries granule shadow run plan.Nothing is = tt
+of_bytes_states entries granule shadow run (plan.Bytes count) is = tt
+of_bytes_states entries granule shadow run (plan.Malloc b) is = absurd is
+of_bytes_states entries granule shadow run (plan.MallocAndFree b) is = absurd is
+of_bytes_states entries granule shadow run (plan.Free b) is = absurd is
+of_bytes_states entries granule shadow run (plan.Cover b) is = absurd is
+of_bytes_states entries granule shadow run plan.Impossible is = absurd is
+
 -- it leaves each other one
 module _ (laws : Laws) (bound : ℕ) (recorded : List Event) (entries : List Entry) (granule shadow other : ℕ)
     (differs : ¬ (other ≡ granule)) where
-  left_beside : (p : Plan) (events : List Event) → IsOfBytes entries granule shadow p → Writes granule p events →
+  pub left_beside : (p : Plan) (events : List Event) → IsOfBytes entries granule shadow p → Writes granule p events →
       shadow_after bound (events ++ recorded) other ≡ shadow_after bound recorded other
   left_beside p events is writes_none = refl
   left_beside p events is (unpoisons r at size) =
@@ -68,6 +80,21 @@ module _ (laws : Laws) (bound : ℕ) (recorded : List Event) (entries : List Ent
 
 -- ---- both granules
 
+-- where nothing is planned, nothing is written, and the entries stay
+pub wrote_none : (granule : ℕ) (p : Plan) (events : List Event) → p ≡ plan.Nothing → Writes granule p events
+    → events ≡ []
+wrote_none granule p events is writes = none events (subst (λ q. Writes granule q events) is writes)
+  where
+    none : (written : List Event) → Writes granule plan.Nothing written → written ≡ []
+    none written writes_none = refl
+
+pub untouched : (entries : List Entry) (granule : ℕ) (p : Plan) → p ≡ plan.Nothing
+    → entries_after granule p entries ≡ entries
+untouched entries granule p is =
+    subst (λ q. entries_after granule q entries ≡ entries) (sym is)
+    (append-nil (map (entry_after granule plan.Nothing) entries)
+    ∙ map_same (entry_after granule plan.Nothing) entries (λ e has. refl))
+
 no_heap : (shadow : ℕ) → is_negative shadow ≡ false → is_of_heap shadow ≡ true → ⊥
 no_heap shadow some heap = grind (arith, nat_tests)
 
@@ -80,9 +107,8 @@ module _ (laws : Laws) (bound : ℕ) (recorded : List Event) (entries : List Ent
       → Writes granule p.here of_here →
       BringsBoth bound recorded entries room.held_bytes granule here next p (of_here ++ (of_next ++ recorded))
   one_granule p of_next of_here none is planned writes_next writes_here =
-      let nothing : of_next ≡ [] = wrote_none of_next (subst (λ q. Writes (granule + 1) q of_next) is writes_next) in
-      let left : entries_after (granule + 1) p.next entries ≡ entries =
-      subst (λ q. entries_after (granule + 1) q entries ≡ entries) (sym is) untouched in
+      let nothing = wrote_none (granule + 1) p.next of_next is writes_next in
+      let left = untouched entries (granule + 1) p.next is in
       let held : held_after p.next room.held_bytes ≡ room.held_bytes =
       ap (λ q. held_after q room.held_bytes) is in
       let b = brings laws bound recorded entries room granule here book within stays.in_here p.here of_here planned
@@ -97,13 +123,6 @@ module _ (laws : Laws) (bound : ℕ) (recorded : List Event) (entries : List Ent
             (subst (λ es. IsBookOf bound (of_here ++ recorded) (entries_after granule p.here es)
             (held_after p.here room.held_bytes)) (sym left) b.is_book);
       })
-    where
-      wrote_none : (events : List Event) → Writes (granule + 1) plan.Nothing events → events ≡ []
-      wrote_none events writes_none = refl
-
-      untouched : entries_after (granule + 1) plan.Nothing entries ≡ entries
-      untouched = append-nil (map (entry_after (granule + 1) plan.Nothing) entries)
-          ∙ map_same (entry_after (granule + 1) plan.Nothing) entries (λ e has. refl)
 
   -- the next one, and then the access's own
   two_granules : (p : AccessPlan) (of_next of_here : List Event) → is_negative here ≡ false

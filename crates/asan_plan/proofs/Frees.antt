@@ -30,7 +30,7 @@ use Rattle.asan_plan.proofs.Laws.{Laws}
 use Rattle.asan_plan.proofs.Lists.{mapped, from_mapped, filtered}
 
 -- an entry, or the same once it was freed
-abbrev freed_if : Bool → Entry → Entry
+abbrev pub freed_if : Bool → Entry → Entry
 freed_if t e = cond t (record e { is_held = true; is_stale = false }) e
 
 block_of_freed : (t : Bool) (e : Entry) → (freed_if t e).block ≡ e.block
@@ -72,7 +72,7 @@ module _ (laws : Laws) (bound : ℕ) (recorded : List Event) (entries : List Ent
       ap (sum_by span_bytes) now_held ∙ omega arith
 
   -- it is the only live one that starts there
-  only : (x : Extent) → Contains (live bound recorded) x → starts_at b.at x ≡ true → b ≡ x
+  pub only : (x : Extent) → Contains (live bound recorded) x → starts_at b.at x ≡ true → b ≡ x
   only x has starts =
       let here : starts_at p.at x ≡ true = rw at_block starts in
       let in_it : Contains (b ∷ []) x =
@@ -151,7 +151,7 @@ module _ (laws : Laws) (bound : ℕ) (recorded : List Event) (entries : List Ent
   byte_after granule = laws.shadow_free bound recorded p b [] granule is_live (sym at_block) now_held
 
   -- it meets no other entry
-  unmet : (e : Entry) → Contains entries e → starts_at b.at e.block ≡ false → meets b e.block ≡ false
+  pub unmet : (e : Entry) → Contains entries e → starts_at b.at e.block ≡ false → meets b e.block ≡ false
   unmet e has other = go e.is_held (book.is_there e has)
     where
       now_has : Contains (held bound (event.Free p ∷ recorded)) b

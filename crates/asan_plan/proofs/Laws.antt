@@ -15,6 +15,7 @@ use Rattle.asan_check.specs.History.{block_of, live, held, admits}
 use Rattle.asan_check.specs.Verdicts.{is_access}
 use Rattle.asan_laws.specs.Recording.{is_of_block}
 use Rattle.asan_laws.specs.Snapshots.{is_shade}
+use Rattle.asan_laws.specs.Runs.{Step, Does, Releases, live_in, held_in, admits_in, shadow_in}
 use Rattle.asan_laws.specs.LeanRecording.{shadow_after, freed_byte, released_byte, shaded_byte}
 
 pub record Laws : Type 0 where
@@ -55,3 +56,20 @@ pub record Laws : Type 0 where
       shadow_after bound (event.Poison s ∷ recorded) granule ≡ code_of_kind (shade_kind s)
   pub good : (bound : ℕ) (recorded : List Event) (r : Region) (granule : ℕ) → r.at ≤ first_byte granule
       → first_byte granule + granule_size ≤ r.at + r.size → shadow_after bound (event.Unpoison r ∷ recorded) granule ≡ 0
+
+-- of `a_shadow_can_follow_a_run`
+pub record RunLaws : Type 0 where
+  pub malloc : (run : List Step) (r : Region) (granule : ℕ) → IsTrue (admits_in run (block_of r)) →
+      shadow_in (Does (event.Malloc r) ∷ run) granule ≡ block_byte r.at r.size granule (shadow_in run granule)
+  pub free : (run : List Step) (p : Place) (b : Extent) (granule : ℕ) → Contains (live_in run) b → b.at ≡ p.at →
+      shadow_in (Does (event.Free p) ∷ run) granule ≡ freed_byte b granule (shadow_in run granule)
+  pub release : (run : List Step) (b : Extent) (granule : ℕ) → Contains (held_in run) b →
+      shadow_in (Releases b.at ∷ run) granule ≡ released_byte (b ∷ []) granule (shadow_in run granule)
+  pub shade : (run : List Step) (e : Event) (granule : ℕ) → IsTrue (is_shade e) →
+      shadow_in (Does e ∷ run) granule ≡ shaded_byte e granule (shadow_in run granule)
+  pub access : (run : List Step) (e : Event) (granule : ℕ) → IsTrue (is_access e) →
+      shadow_in (Does e ∷ run) granule ≡ shadow_in run granule
+  pub refused : (run : List Step) (r : Region) (granule : ℕ) → admits_in run (block_of r) ≡ false →
+      shadow_in (Does (event.Malloc r) ∷ run) granule ≡ shadow_in run granule
+  pub bad_free : (run : List Step) (p : Place) (granule : ℕ) → list_any (starts_at p.at) (live_in run) ≡ false →
+      shadow_in (Does (event.Free p) ∷ run) granule ≡ shadow_in run granule

@@ -11,3 +11,7 @@ mod Known
 mod Accesses
 mod Stated
 mod Releases
+mod RunBlocks
+mod Kept
+mod Recorded
+mod ByPlan

@@ -16,14 +16,14 @@ use Rattle.asan_plan.proofs.Granules.{apart}
 use Rattle.asan_plan.proofs.Lists.{mapped, from_mapped}
 
 -- an entry, or the same when it is stale
-abbrev stale_if : Bool → Entry → Entry
+abbrev pub stale_if : Bool → Entry → Entry
 stale_if t e = cond t (record e { is_stale = true }) e
 
-same_block : (t : Bool) (e : Entry) → (stale_if t e).block ≡ e.block
+pub same_block : (t : Bool) (e : Entry) → (stale_if t e).block ≡ e.block
 same_block true e = refl
 same_block false e = refl
 
-same_place : (t : Bool) (e : Entry) → (stale_if t e).is_held ≡ e.is_held
+pub same_place : (t : Bool) (e : Entry) → (stale_if t e).is_held ≡ e.is_held
 same_place true e = refl
 same_place false e = refl
 
@@ -65,7 +65,7 @@ module _ (b : Extent) (bound : ℕ) (recorded : List Event) (entries : List Entr
           (λ clean here. book.shown e has clean granule here)
 
   -- an entry that is not stale then was not before, and does not meet the block
-  still_fresh : (t : Bool) (e : Entry) → (stale_if t e).is_stale ≡ false → (t ≡ false) × (e.is_stale ≡ false)
+  pub still_fresh : (t : Bool) (e : Entry) → (stale_if t e).is_stale ≡ false → (t ≡ false) × (e.is_stale ≡ false)
   still_fresh true e fresh = absurd (false≢true (sym fresh))
   still_fresh false e fresh = (refl, fresh)
 

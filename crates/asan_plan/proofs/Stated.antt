@@ -28,6 +28,7 @@ use Rattle.asan_plan.specs.Plans.{Writes, writes_none, unpoisons, poisons, parts
 use Rattle.asan_plan.specs.Plans.{frees, entry_after, entries_after, held_after, IsPlanned, IsStated, IsEntryOf}
 use Rattle.asan_plan.specs.Plans.{IsApart}
 use Rattle.asan_plan.specs.Frees.{IsBadFree, IsPlannedFree}
+use Rattle.asan_plan.specs.Recorders.{IsOfProcess, StatesOfProcess}
 use Rattle.asan_plan.proofs.Laws.{Laws}
 use Rattle.asan_plan.proofs.Lists.{map_same}
 use Rattle.asan_plan.proofs.Mallocs.{a_new}
@@ -72,6 +73,20 @@ stated_planned entries room granule shadow b is_held here left heap (plan.Free c
     )
 stated_planned entries room granule shadow b is_held here left heap (plan.Cover c) is = absurd is
 stated_planned entries room granule shadow b is_held here left heap plan.Impossible is = tt
+
+-- what is stated of a block that the process has
+pub states_of : (entries : List Entry) (room : Room) (run : List Step) (b : Extent) (is_held : Bool) (p : Plan)
+    → IsStated entries room b is_held p → IsOfProcess run is_held b → StatesOfProcess run p
+states_of entries room run b is_held plan.Nothing is of_process = tt
+states_of entries room run b is_held (plan.Bytes count) is of_process = tt
+states_of entries room run b is_held (plan.Malloc c) (same, live, apart) of_process =
+    subst (λ t. IsOfProcess run t c) live (subst (λ x. IsOfProcess run is_held x) (sym same) of_process)
+states_of entries room run b is_held (plan.MallocAndFree c) (same, held, apart, fits) of_process =
+    subst (λ t. IsOfProcess run t c) held (subst (λ x. IsOfProcess run is_held x) (sym same) of_process)
+states_of entries room run b is_held (plan.Free c) (same, held, own, fits) of_process =
+    subst (λ t. IsOfProcess run t c) held (subst (λ x. IsOfProcess run is_held x) (sym same) of_process)
+states_of entries room run b is_held (plan.Cover c) is of_process = tt
+states_of entries room run b is_held plan.Impossible is of_process = tt
 
 -- ---- a block that is held then
 

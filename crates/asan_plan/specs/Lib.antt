@@ -4,3 +4,4 @@ pub mod Plans
 pub mod Accesses
 pub mod Frees
 pub mod Releases
+pub mod Recorders

@@ -14,6 +14,7 @@ ghost use Rattle.asan_plan.specs.Books.{IsBookOf, knows};
 ghost use Rattle.asan_plan.specs.Plans.{IsOfBytes, entry_after, entries_after, new_entries};
 ghost use Rattle.asan_plan.specs.Accesses.{IsSeen, PoisonStaysThere, WritesBoth, BringsBoth};
 ghost use Rattle.asan_plan.specs.Accesses.{IsPlannedAccess, entries_after_both, held_after_both};
+ghost use Rattle.asan_plan.specs.Recorders.{IsAroundInRun, StatesOfProcess};
 
 use crate::entry::Entry;
 use crate::granule::{Around, Plan, Room, as_recorded, choose, first_bytes, knows};
@@ -84,7 +85,9 @@ fn choose_both(
     requires granule { granule + 1 < granule_count }
     requires here { as_recorded here ≡ here }
     requires next { as_recorded next ≡ next }
-    ensures { IsPlannedAccess entries.now room.now granule here next result }
+    ensures planned { IsPlannedAccess entries.now room.now granule here next result }
+    ensures of_process { (run : List Step) → IsAroundInRun run around.now →
+        StatesOfProcess run result.next × StatesOfProcess run result.here }
 {
     if here >= 0x80 {
         return AccessPlan {
@@ -111,6 +114,10 @@ pub fn plan_access(
     around: &Around,
 ) -> AccessPlan
     requires { granule + 1 < granule_count }
+    ensures planned { IsPlannedAccess entries.now room.now granule (as_recorded here)
+        (as_recorded next) result }
+    ensures of_process { (run : List Step) → IsAroundInRun run around.now →
+        StatesOfProcess run result.next × StatesOfProcess run result.here }
     ensures brings { (bound : ℕ) (recorded events : List Event) →
         IsBookOf bound recorded entries.now room.now.held_bytes → room.now.most_held ≤ bound →
         PoisonStaysThere bound recorded entries.now granule (as_recorded here) (as_recorded next) →

@@ -51,6 +51,7 @@ fn choose_held(entries: &[Entry], room: &Room, at: u64, block: Option<Block>) ->
 /// the free is of no block.
 pub fn plan_free(entries: &[Entry], room: &Room, at: u64, block: Option<Block>) -> Plan
     requires { IfSome block (λ b. b.at ≡ at) }
+    ensures planned { IsPlannedFree entries.now room.now at block result }
     ensures free { (bound : ℕ) (first recorded events : List Event) (past run : List Step)
         (place : Place) →
         IsBookOf bound recorded entries.now room.now.held_bytes → room.now.most_held ≤ bound →

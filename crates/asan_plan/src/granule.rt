@@ -16,6 +16,7 @@ ghost use Rattle.asan_laws.specs.LeanRecording.{RecordsLeanly, lean_numbers};
 ghost use Rattle.asan_plan.specs.Spans.{as_recorded, is_of_heap, byte_with};
 ghost use Rattle.asan_plan.specs.Books.{IsBookOf, PoisonStays, knows};
 ghost use Rattle.asan_plan.specs.Plans.{IsPlanned, IsStated, IsCover, Writes, Brings};
+ghost use Rattle.asan_plan.specs.Recorders.{IsOfProcess, IsAroundInRun, StatesOfProcess};
 
 use crate::entry::{Block, Entry};
 use asan_laws::{
@@ -199,7 +200,9 @@ fn plan_of_heap(
 ) -> Plan
     requires granule { granule < granule_count }
     requires heap { is_of_heap shadow ≡ true }
-    ensures { IsPlanned entries.now room.now granule shadow result }
+    ensures planned { IsPlanned entries.now room.now granule shadow result }
+    ensures of_process { (run : List Step) →
+        IsOfProcess run is_held block.now → StatesOfProcess run result }
 {
     if block.has_in_span(granule) && block.left(is_held, granule) == shadow {
         plan_block(entries, room, block, is_held)
@@ -248,7 +251,8 @@ fn cover(entries: &[Entry], granule: u64, unused: u8) -> Option<Block>
 /// States what is redzone and no block's any more.
 fn plan_released(entries: &[Entry], room: &Room, granule: u64, shadow: u8, unused: u8) -> Plan
     requires granule { granule < granule_count }
-    ensures { IsPlanned entries.now room.now granule shadow result }
+    ensures planned { IsPlanned entries.now room.now granule shadow result }
+    ensures of_process { (run : List Step) → StatesOfProcess run result }
 {
     if shadow != HEAP_REDZONE || room.is_full {
         return Plan::Impossible;
@@ -292,7 +296,9 @@ pub(crate) fn choose(
 ) -> Plan
     requires granule { granule < granule_count }
     requires known { as_recorded shadow ≡ shadow }
-    ensures { IsPlanned entries.now room.now granule shadow result }
+    ensures planned { IsPlanned entries.now room.now granule shadow result }
+    ensures of_process { (run : List Step) →
+        IsAroundInRun run around.now → StatesOfProcess run result }
 {
     if is_known(entries, granule, shadow) {
         return Plan::Nothing;

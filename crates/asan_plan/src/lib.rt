@@ -9,8 +9,10 @@ mod access;
 mod entry;
 mod free;
 mod granule;
+mod recording;
 
 pub use access::{AccessPlan, plan_access};
 pub use entry::{Block, Entry};
 pub use free::{plan_free, release};
 pub use granule::{Around, Plan, Room, plan_granule};
+pub use recording::a_recording_by_plans_has_the_faults_of_the_run;

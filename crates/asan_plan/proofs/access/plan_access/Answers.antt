@@ -22,8 +22,10 @@ returns c =
       whole = poison_laws.whole;
       good = poison_laws.good;
     } in
-    let planned = rw (c.as_recorded.ensures, c.as_recorded-2.ensures) at c.choose_both.ensures in
+    let planned = rw (c.as_recorded.ensures, c.as_recorded-2.ensures) at c.choose_both.ensures.planned in
     record {
+      planned = planned;
+      of_process = c.choose_both.ensures.of_process;
       brings = λ bound recorded events book within stays writes.
           brings_both laws bound recorded _ c.args.room.now _ _ _ book within stays _ events planned writes;
       access = λ bound first recorded events past run is_store a book within stays writes at seen way.

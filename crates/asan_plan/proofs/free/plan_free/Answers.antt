@@ -24,6 +24,7 @@ returns c =
     let room = c.args.room.now in
     let planned = c.choose_held.ensures in
     record {
+      planned = planned;
       free = λ bound first recorded events past run place book within writes at bad way.
           free_after laws bound recorded _ room _ _ book within _ _ _
           (finds_free laws bound recorded _ room _ _ book within _ c.requires _ events planned writes) first past run

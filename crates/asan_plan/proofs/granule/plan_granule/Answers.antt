@@ -21,7 +21,7 @@ returns c =
       whole = poison_laws.whole;
       good = poison_laws.good;
     } in
-    let planned = rw c.as_recorded.ensures at c.choose.ensures in
+    let planned = rw c.as_recorded.ensures at c.choose.ensures.planned in
     record {
       brings = λ bound recorded events book within stays writes.
           brings laws bound recorded _ c.args.room.now _ _ book within stays _ events planned writes;
