@@ -1,6 +1,8 @@
 //! The decisions of `asan_plan`, for C: recorder/tests/plans.c compares the recorder with them.
 #![tactic(auto)]
 
+ghost use Rattle.std.specs.Prelude.{◌≤◌, IfSome, length};
+
 use asan_plan::{
     AccessPlan, Around, Block, Entry, Plan, Room, plan_access, plan_free, plan_granule, release,
 };
@@ -92,7 +94,15 @@ fn list_of(entries: &[ProvedEntry]) -> Option<[Entry; MOST]> {
     Some(list)
 }
 
-fn around_of(asked: &Asked) -> Option<Around> {
+/// What is around a granule. None: it lies past the last one, there are too many entries, or the
+/// block has no place.
+fn around_of(entries: &[ProvedEntry], asked: &Asked, last: u64) -> Option<Around>
+    ensures few { IfSome result (λ around. length entries.now ≤ MOST) }
+    ensures within { IfSome result (λ around. asked.now.granule ≤ last) }
+{
+    if entries.len() > MOST || asked.granule > last {
+        return None;
+    }
     if asked.around == 0 {
         return Some(Around::Released(asked.unused));
     }
@@ -141,16 +151,13 @@ pub extern "C" fn asan_plan_granule(
     asked: &Asked,
     planned: &mut Planned,
 ) -> bool {
-    let count = entries.len();
-    if count > MOST || asked.granule >= GRANULES {
+    let Some(around) = around_of(entries, asked, GRANULES - 1) else {
         return false;
-    }
+    };
     let Some(list) = list_of(entries) else {
         return false;
     };
-    let Some(around) = around_of(asked) else {
-        return false;
-    };
+    let count = entries.len();
     let plan = plan_granule(
         &list[..count],
         &room_of(asked),
@@ -182,16 +189,13 @@ pub extern "C" fn asan_plan_access(
     next: &mut Planned,
     here: &mut Planned,
 ) -> bool {
-    let count = entries.len();
-    if count > MOST || asked.granule >= GRANULES - 1 {
+    let Some(around) = around_of(entries, asked, GRANULES - 2) else {
         return false;
-    }
+    };
     let Some(list) = list_of(entries) else {
         return false;
     };
-    let Some(around) = around_of(asked) else {
-        return false;
-    };
+    let count = entries.len();
     let plan = plan_access(
         &list[..count],
         &room_of(asked),
