@@ -536,7 +536,7 @@ def check_kept_blocks(suite: Suite, folder: str, compiler: Compiler) -> None:
 
 
 # Five hooks, which as many threads add at once: in each of these children.
-HOOKS = """
+ADDS_HOOKS = """
 #include <pthread.h>
 #include <sched.h>
 #include <stdatomic.h>
@@ -584,7 +584,7 @@ int main(void)
 
 def check_hooks_at_once(suite: Suite, folder: str, compiler: Compiler) -> None:
     """None of them is lost, each has another number, and a sixth one is refused."""
-    write(folder, hooks_c=HOOKS)
+    write(folder, hooks_c=ADDS_HOOKS)
     compiler.c(folder, ["hooks.c"], f"{folder}/hooks", "-w", "-O1", "-pthread")
     ran = run(["./hooks"], folder)
     expect((ran.returncode, ran.stderr), (0, b""), "the program")
