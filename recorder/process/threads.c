@@ -514,17 +514,24 @@ uintptr_t thread_function_behind(const char *name)
 
 /* A jump. If a library makes it, no call of the compilers' comes first; and only here it is known where it goes. */
 
+#ifdef JUMP_SECRET
+static const uintptr_t *jump_secret(void)
+{
+    static const uintptr_t *_Atomic secret;
+    const uintptr_t *found = atomic_load(&secret);
+    if (found == NULL)
+        atomic_store(&secret, found = library_next(JUMP_SECRET));
+    return found;
+}
+#endif
+
 /* The stack pointer of a jmp_buf. */
 static OF_PROGRAM uintptr_t target_of(const void *to)
 {
     uintptr_t mixed;
     memcpy(&mixed, (const char *)to + JUMP_STACK_POINTER, sizeof mixed);
 #ifdef JUMP_SECRET
-    static const uintptr_t *_Atomic secret;
-    const uintptr_t *found = atomic_load(&secret);
-    if (found == NULL)
-        atomic_store(&secret, found = library_next(JUMP_SECRET));
-    return processor_jump_target(mixed, found);
+    return processor_jump_target(mixed, jump_secret());
 #else
     return processor_jump_target(mixed);
 #endif
@@ -547,13 +554,19 @@ static void frames_left_by_jump(uintptr_t frame, uintptr_t target)
 
 typedef void jump(void *, int);
 
+static jump *find_jump(jump *_Atomic *real, const char *name)
+{
+    jump *found = atomic_load(real);
+    if (found == NULL)
+        atomic_store(real, found = (jump *)(uintptr_t)library_next(name));
+    return found;
+}
+
 #define JUMPS(name)                                                                                                    \
+    static jump *_Atomic real_##name;                                                                                  \
     REPLACES _Noreturn void name(void *to, int value)                                                                  \
     {                                                                                                                  \
-        static jump *_Atomic real;                                                                                     \
-        jump *next = atomic_load(&real);                                                                               \
-        if (next == NULL)                                                                                              \
-            atomic_store(&real, next = (jump *)(uintptr_t)library_next(#name));                                        \
+        jump *next = find_jump(&real_##name, #name);                                                                   \
         frames_left_by_jump((uintptr_t)__builtin_frame_address(0), target_of(to));                                     \
         next(to, value);                                                                                               \
         __builtin_unreachable();                                                                                       \
@@ -563,6 +576,17 @@ JUMPS(longjmp)
 JUMPS(_longjmp)
 JUMPS(siglongjmp)
 JUMPS(__longjmp_chk)
+
+void threads_find_jumps(void)
+{
+    find_jump(&real_longjmp, "longjmp");
+    find_jump(&real__longjmp, "_longjmp");
+    find_jump(&real_siglongjmp, "siglongjmp");
+    find_jump(&real___longjmp_chk, "__longjmp_chk");
+#ifdef JUMP_SECRET
+    jump_secret();
+#endif
+}
 
 /* An exception that a library throws. */
 
@@ -588,6 +612,10 @@ UNWINDS(_Unwind_Resume_or_Rethrow)
 
 /* Nobody says when the first one is created. */
 _Atomic bool threads_started = true;
+
+void threads_find_jumps(void)
+{
+}
 
 void threads_visit_waiting(void (*visit)(uintptr_t argument))
 {

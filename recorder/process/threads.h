@@ -8,8 +8,8 @@
    thread, which the C library calls in that thread. The program calls the functions of the C library's that are
    replaced here: the jumps and the throws may come in a handler; pthread_create and thrd_create may not.
    Lock: none: a thread's data are its own, and tables that threads share are atomic. But each replaced function takes
-   the loader's for a moment at its first call (library_next), and end_thread, or a jump out of the allocator, the
-   allocator's. Nothing is allocated. */
+   the loader's for a moment at its first call (library_next), and threads_find_jumps, for the jumps, at the start; and
+   end_thread, or a jump out of the allocator, the allocator's. Nothing is allocated. */
 #ifndef ASANCOL_THREADS_H
 #define ASANCOL_THREADS_H
 
@@ -18,6 +18,9 @@
 
 #include "base/platform.h"
 
+/* At the start, by start.c: finds the library's jumps, since a handler may jump out of the allocator, and then must not
+   wait for the loader's lock. */
+void threads_find_jumps(void);
 /* Whether an address in a block is in this frame or above it, on the same stack: in a block that this frame is in, too.
    */
 bool stack_has_frame(uintptr_t frame, uintptr_t address) OWN_NAME(stack_has_frame);

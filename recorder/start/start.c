@@ -130,6 +130,7 @@ void asancol_start(void)
     register_ends();
     interface_start();
     stack_start();
+    threads_find_jumps();
     thread_is_first();
     stacks_begin();
     unchecked_start();

@@ -448,9 +448,10 @@ static void forks_beside_the_loader(void)
 }
 
 /* A thread has the loader's lock, and waits for the allocator, in the middle of which a handler of another thread ends
-   the process, starts another program, or forks. */
+   the process, starts another program, forks, or leaves by a jump. */
 
 static atomic_int has_begun, has_come;
+static sigjmp_buf before_blocks;
 static int way_out;
 
 static void go_out(int number)
@@ -462,6 +463,8 @@ static void go_out(int number)
         _exit(0);
     if (way_out == 1)
         execl("/bin/true", "true", NULL);
+    if (way_out == 2)
+        siglongjmp(before_blocks, 1);
     pid_t child = fork();
     if (child == 0)
         _exit(0);
@@ -470,6 +473,8 @@ static void go_out(int number)
 
 static void *allocate_on(void *unused)
 {
+    if (sigsetjmp(before_blocks, 1) != 0)
+        _exit(0);
     for (;; atomic_store(&has_begun, 1))
         free(hide(malloc(24)));
     return unused;
@@ -487,13 +492,13 @@ static int wait_for_allocator(struct dl_phdr_info *module, size_t size, void *th
 
 static void handlers_beside_the_loader(void)
 {
-    for (int i = 0; i < 30; i++) {
+    for (int i = 0; i < 40; i++) {
         int status;
         pid_t child = fork();
         if (child == 0) {
             pthread_t thread;
             alarm(20);
-            way_out = i % 3;
+            way_out = i % 4;
             signal(SIGUSR1, go_out);
             pthread_create(&thread, NULL, allocate_on, NULL);
             while (!atomic_load(&has_begun))
