@@ -1,7 +1,7 @@
 /* Of functions that a program may have itself: the recorder's, which its dlsym finds behind those (process/plain.c).
 
-   Called: by heap/replaced.c and process/threads.c, each with its table, for process/plain.c: in the thread that
-   calls dlsym, or in which slots are redirected; not in a handler. No lock: the tables are constant. */
+   Called: by heap/replaced.c and process/threads.c, each with its table, for process/plain.c, in the thread that
+   calls dlsym or dlvsym; not in a handler. No lock: the tables are constant. */
 #ifndef ASANCOL_BEHIND_H
 #define ASANCOL_BEHIND_H
 
