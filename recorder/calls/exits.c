@@ -1,4 +1,4 @@
-/* The ways out of a process that run none of its exit handlers, and those into another program.
+/* The ways out of a process, most of them without its exit handlers, and those into another program.
 
    Called: by the program, in any thread, also in a handler and in a child of vfork. So nothing is allocated, and what
    an exec is given as a list lies on the stack. Lock: none is held or taken here. By hooks.def ask_finish and ask_leave
@@ -15,6 +15,7 @@
 #include "base/system.h"
 #include "calls/words.h"
 
+REAL(_Noreturn void, exit, (int));
 REAL(_Noreturn void, _exit, (int));
 REAL(_Noreturn void, _Exit, (int));
 REAL(_Noreturn void, abort, (void));
@@ -26,6 +27,14 @@ REAL(int, execv, (const char *, char *const *));
 REAL(int, execvpe, (const char *, char *const *, char *const *));
 REAL(int, execvp, (const char *, char *const *));
 REAL(int, fexecve, (int, char *const *, char *const *));
+
+/* An initialiser may exit: what its handlers access is not said to depend on the order of files. */
+GUARD_OWN(exit);
+CHECK _Noreturn void checked_exit(int status)
+{
+    note_after_init();
+    real_exit(status);
+}
 
 GUARD_OWN(_exit);
 CHECK _Noreturn void checked__exit(int status)

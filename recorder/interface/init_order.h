@@ -2,11 +2,12 @@
    the order of files. As AddressSanitizer's check_initialization_order.
 
    Called: by the constructors of a module (callbacks.c, by hooks.def), in the thread that loads it, never in a signal
-   handler. Lock: the loader's, or there is one thread: so nothing is guarded here. */
+   handler; init_order_after also by an exit (calls/exits.c). Lock: the loader's, or there is one thread: so nothing is
+   guarded here. An exit beside a dlopen may show or hide a file's globals too early. */
 #ifndef ASANCOL_INIT_ORDER_H
 #define ASANCOL_INIT_ORDER_H
 
-/* Around the initialisers of a file, by the text that its globals have for it. */
+/* Around the initialisers of a file, by the text that its globals have for it. An exit ends them as well. */
 void init_order_before(const char *module);
 void init_order_after(void);
 

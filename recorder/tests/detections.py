@@ -118,6 +118,34 @@ def check_order(suite: Suite, folder: str, compiler: Compiler, names: Sequence[s
     expect(shades, {0xF6} if said else set(), "what the shadow had")
 
 
+EXITS = """
+#include <cstdio>
+#include <cstdlib>
+extern int other;
+struct Last { ~Last() { std::printf("%d\\n", other); } } last;
+struct First { First() { std::exit(other != 0 ? 3 : 2); } } first;
+int main() { return 4; }
+"""
+HIDDEN = """
+#include <cstdlib>
+int make() { return std::atoi("5"); }
+int other = make();
+"""
+
+
+def check_order_at_exit(suite: Suite, folder: str, compiler: Compiler) -> None:
+    """An initialiser that exits ends the check: what destructors access then is no mistake. Before that it is."""
+    write(folder, first_cpp=EXITS, second_cpp=HIDDEN, good_cpp=EXITS.replace("other != 0 ? 3 : 2", "3"))
+    for name, count in ("first.cpp", 1), ("good.cpp", 0):
+        compiler.cpp(folder, [name, "second.cpp"], f"{folder}/recorded", "-O0")
+        compiler.cpp(folder, [name, "second.cpp"], f"{folder}/sanitized", "-O0", "-fsanitize=address", native=True)
+        said = class_said(folder, "./sanitized", "strict_init_order=1")
+        expect(said, "initialization-order-fiasco" * count, f"{name}: AddressSanitizer")
+        expect(run(["./recorded"], folder, **ON, ASANCOL_INIT_ORDER="2").returncode, 3 - count, "the status")
+        expect(len(reports(suite.asancol, f"{folder}/t.trace")[1]), count, f"{name}: reports")
+        run(["rm", "t.trace", "t.trace.where"], folder)
+
+
 PAIRS = """
 #include <stdio.h>
 #include <stdlib.h>
@@ -177,3 +205,5 @@ def tests(suite: Suite, compiler: Compiler) -> None:
             for names in (("first.cpp", "second.cpp"), ("second.cpp", "first.cpp")):
                 suite.test(f"{compiler} order of initialisation: {level} {names[0]}", check_order, compiler, names,
                            level)
+    if compiler.cxx:
+        suite.test(f"{compiler} order of initialisation: exit", check_order_at_exit, compiler)
