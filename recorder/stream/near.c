@@ -20,6 +20,24 @@ static bool add(char *name, const char *text)
     return true;
 }
 
+/* Reads a path, without its folders if there is no room for all. */
+static bool read_file_name(uintptr_t path, char file[SIDE_NAME])
+{
+    bool is_cut = false, is_within_name = false;
+    while (memory_read_text(path, file, SIDE_NAME)) {
+        const char *last = strrchr(file, '/');
+        if (strlen(file) < SIDE_NAME - 1) {
+            if (last != NULL && is_cut)
+                memmove(file, last + 1, strlen(last));
+            return last != NULL || !is_within_name;
+        }
+        is_cut = true;
+        is_within_name = last == NULL;
+        path += is_within_name ? SIDE_NAME - 1 : (uintptr_t)(last + 1 - file);
+    }
+    return false;
+}
+
 /* " FILE:LINE" after a name: with the file alone if its folders do not fit, or not at all. */
 static void add_location(char *name, const struct location *at)
 {
@@ -27,7 +45,7 @@ static void add_location(char *name, const struct location *at)
     char file[SIDE_NAME], line[DIGITS_ROOM];
     size_t length = strlen(name);
     if (at == NULL || !memory_read((uintptr_t)at, &location, sizeof location)
-        || !memory_read_text((uintptr_t)location.file, file, sizeof file))
+        || !read_file_name((uintptr_t)location.file, file))
         return;
     char *text = put_digits(line + sizeof line, location.line, 0);
     *--text = ':';

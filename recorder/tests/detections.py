@@ -1,6 +1,7 @@
 """What settings choose to look for: globals with two definitions, the order of initialisation, and pairs of pointers.
 Each is found where AddressSanitizer finds it, and not where it does not."""
 
+import os
 import re
 from typing import Dict, List, Sequence, Tuple
 
@@ -146,6 +147,22 @@ def check_order_at_exit(suite: Suite, folder: str, compiler: Compiler) -> None:
         run(["rm", "t.trace", "t.trace.where"], folder)
 
 
+def check_long_path(_: Suite, folder: str, compiler: Compiler) -> None:
+    """If a global's file has a path without room, its name alone is said, whatever is cut."""
+    name = "a-file-with-a-longer-name.c"
+    for length in (20, *range(60, 130, 7), 250):
+        deep = f"{folder}/{length}/{'d' * (length // 2)}/{'e' * (length // 2)}"
+        os.makedirs(deep)
+        write(deep, **{"table_c": "int table[4];\nint main(int n, char **v) { return ((volatile int *)table)[n + 3]; }"})
+        os.rename(f"{deep}/table.c", f"{deep}/{name}")
+        compiler.c(folder, [f"{deep}/{name}"], f"{folder}/recorded", "-w")
+        run(["./recorded"], folder, **ON)
+        fault = side_of(f"{folder}/t.trace").fault(1)
+        whole = f"table {deep}/{name}:1"
+        expect(fault.name if fault else "", whole if len(whole) < 120 else f"table {name}:1", f"{length}")
+        run(["rm", "t.trace", "t.trace.where"], folder)
+
+
 PAIRS = """
 #include <stdio.h>
 #include <stdlib.h>
@@ -205,5 +222,6 @@ def tests(suite: Suite, compiler: Compiler) -> None:
             for names in (("first.cpp", "second.cpp"), ("second.cpp", "first.cpp")):
                 suite.test(f"{compiler} order of initialisation: {level} {names[0]}", check_order, compiler, names,
                            level)
+    suite.test(f"{compiler} a global in a long path", check_long_path, compiler)
     if compiler.cxx:
         suite.test(f"{compiler} order of initialisation: exit", check_order_at_exit, compiler)
