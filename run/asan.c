@@ -163,21 +163,25 @@ static enum done take_verbosity(struct options *options, const struct asan_word 
     return level > 0 ? TAKEN : HARMLESS;
 }
 
+/* Names of options that are taken or said: what no report depends on is not meant. */
+static const char *const meant[] = {
+#define OPTION(name, fate, value, here) ASAN_IS_##fate != ASAN_IS_HARMLESS ? #name : "",
+#include "common/asan_options.def"
+#undef OPTION
+};
+
 /* Prints the names of the options that are taken, as AddressSanitizer does: at the start, one a line. */
 static enum done take_help(const struct asan_word *word)
 {
-    static const char *const taken[] = {
-#define OPTION(name, fate, value, here) \
-    ASAN_IS_##fate == ASAN_IS_RUN || ASAN_IS_##fate == ASAN_IS_PROCESS ? #name : NULL,
-#include "common/asan_options.def"
-#undef OPTION
-    };
     if (!asan_is_yes(word))
         return asan_is_no(word) ? HARMLESS : WITHOUT_EFFECT;
     fputs("asancol: ASAN_OPTIONS and LSAN_OPTIONS can have these options, which docs/ASAN.md explains:\n", stderr);
-    for (size_t i = 0; i < sizeof taken / sizeof *taken; i++)
-        if (taken[i] != NULL)
-            fprintf(stderr, "\t%s\n", taken[i]);
+    for (size_t i = 0; i < sizeof meant / sizeof *meant; i++) {
+        struct asan_word option = {.name = meant[i], .value = "", .name_length = strlen(meant[i])};
+        asan_look_up(&option);
+        if (option.fate == ASAN_IS_RUN || option.fate == ASAN_IS_PROCESS)
+            fprintf(stderr, "\t%s\n", meant[i]);
+    }
     return TAKEN;
 }
 
@@ -239,13 +243,6 @@ static enum done take_word(struct options *options, const struct asan_word *word
         return UNKNOWN;
     }
 }
-
-/* Names of options that are taken or said: what no report depends on is not meant. */
-static const char *const meant[] = {
-#define OPTION(name, fate, value, here) ASAN_IS_##fate != ASAN_IS_HARMLESS ? #name : "",
-#include "common/asan_options.def"
-#undef OPTION
-};
 
 /* The name that an unknown one is nearest to, if it is at most two letters away, and a third of it; or null. */
 static const char *meant_by(const struct asan_word *word)
