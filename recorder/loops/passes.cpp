@@ -6,23 +6,19 @@
    accesses that become one are in a group only if both were, so a mark that is lost costs a check, and no report.
 
    Called: by LLVM, in the compiler's one thread; no lock. */
-#include <llvm/Analysis/AssumptionCache.h>
 #include <llvm/Analysis/VectorUtils.h>
 #include <llvm/Config/llvm-config.h>
 #include <llvm/IR/InstIterator.h>
 #include <llvm/IR/Module.h>
 #include <llvm/Passes/PassBuilder.h>
 #include <llvm/Support/CommandLine.h>
-#include <llvm/Transforms/Utils/LoopSimplify.h>
-#include <llvm/Transforms/Utils/LoopUtils.h>
 
 #include "loops/accesses.hpp"
+#include "loops/choice.hpp"
 #include "loops/plugin.h"
 #include "loops/versions.hpp"
 
-#include <algorithm>
 #include <memory>
-#include <vector>
 
 using namespace llvm;
 
@@ -70,94 +66,35 @@ bool has_group(const Instruction &instruction, const MDNode *group)
     return is_contained(of->operands(), group);
 }
 
-/* How much code copies of loops may add: a part of each function's, and what functions before it have left. So a
-   module grows by no more, except that of a small one the first loops are made in any case. */
-class budget
-{
-  public:
-    explicit budget(bool has_limit) : has_limit(has_limit)
-    {
-    }
-    void enter(Function &function)
-    {
-        if (module != function.getParent())
-            left = LEAST;
-        module = function.getParent();
-        left += code_of(function) * PERCENT / 100;
-    }
-    bool take(uint64_t bytes)
-    {
-        if (!has_limit)
-            return true;
-        if (bytes > left)
-            return false;
-        left -= bytes;
-        return true;
-    }
-
-    const bool has_limit;
-
-  private:
-    static const uint64_t LEAST = 2000, PERCENT = 2;
-    const Module *module = nullptr;
-    uint64_t left = 0;
-};
-
-/* A loop that can be tested as a whole. */
-struct candidate {
-    Loop *loop;
-    unsigned depth;
-    uint64_t added;
-};
-
-/* Makes the copies, of a nest as a whole if that can be: its loops are candidates otherwise. Those deep in nests come
-   first, and then small ones. */
+/* Makes the copies, of a nest as a whole if that can be. The loops of a nest get copies if the nest gets none, or
+   without a limit. */
 class version_loops : public PassInfoMixin<version_loops>
 {
   public:
-    version_loops(mark how, bool has_limit) : how(how), allowed(std::make_shared<budget>(has_limit))
+    version_loops(mark how, bool has_limit) : how(how), chosen(std::make_shared<choice>(has_limit))
     {
     }
     PreservedAnalyses run(Function &function, FunctionAnalysisManager &manager);
 
   private:
     mark how;
-    std::shared_ptr<budget> allowed;
+    std::shared_ptr<choice> chosen;
 
-    static void find(access_reader &reader, Loop *loop, std::vector<candidate> &found);
     bool make(const analyses &of, Loop *loop);
 };
 
-void version_loops::find(access_reader &reader, Loop *loop, std::vector<candidate> &found)
-{
-    bool has_only_innermost = true;
-    for (const Loop *inner : *loop)
-        has_only_innermost &= inner->isInnermost();
-    tested_loop tested;
-    if (has_only_innermost && reader.read(loop, tested)) {
-        found.push_back({loop, loop->getLoopDepth() + !tested.inner.empty(), added_code(tested)});
-        return;
-    }
-    for (Loop *inner : *loop)
-        find(reader, inner, found);
-}
-
-/* The facts read of a loop may not hold any more once another loop was copied. If there is no room for a copy of the
-   rest after a bad strip, the loop gets one strip. The loops of a nest get copies if the nest gets none, or without a
-   limit. */
+/* The facts read of a loop may not hold any more once another loop was copied. */
 bool version_loops::make(const analyses &of, Loop *loop)
 {
     tested_loop tested;
     if (!access_reader(of.function, of.loops, of.tree, of.evolution).read(loop, tested))
         return false;
-    bool is_made = allowed->take(added_code(tested));
-    if (!is_made && tested.inner.empty()) {
-        tested.has_one_strip = true;
-        is_made = allowed->take(added_code(tested));
-    }
-    if (is_made)
+    copies kind = chosen->of(loop);
+    tested.has_one_strip |= kind == copies::ONE_STRIP;
+    if (kind != copies::NONE)
         make_versions(of, tested, how == mark::GROUP ? add_to_group : mark_unchecked);
-    if (!is_made || !allowed->has_limit)
+    bool is_made = kind != copies::NONE;
+    if (!is_made || !chosen->has_limit)
         for (const inner_loop &inner : tested.inner)
             is_made |= make(of, inner.loop);
     return is_made;
@@ -167,28 +104,13 @@ PreservedAnalyses version_loops::run(Function &function, FunctionAnalysisManager
 {
     if (!function.hasFnAttribute(Attribute::SanitizeAddress))
         return PreservedAnalyses::all();
-    allowed->enter(function);
-    LoopInfo &loops = manager.getResult<LoopAnalysis>(function);
-    if (function.hasOptNone() || function.hasOptSize() || function.hasFnAttribute(Attribute::Cold) || loops.empty())
+    chosen->enter(function, manager);
+    if (!may_have_copies(function, manager.getResult<LoopAnalysis>(function)))
         return PreservedAnalyses::all();
-    const analyses of = {function, loops, manager.getResult<DominatorTreeAnalysis>(function),
-                         manager.getResult<ScalarEvolutionAnalysis>(function)};
-    AssumptionCache &assumptions = manager.getResult<AssumptionAnalysis>(function);
-    SmallVector<Loop *, 8> outermost(loops.begin(), loops.end());
-    std::vector<candidate> found;
-    access_reader reader(function, loops, of.tree, of.evolution);
-    bool is_made = false;
-    for (Loop *loop : outermost) {
-        is_made |= simplifyLoop(loop, &of.tree, &loops, &of.evolution, &assumptions, nullptr, false);
-        is_made |= formLCSSARecursively(*loop, of.tree, &loops, &of.evolution);
-    }
-    for (Loop *loop : outermost)
-        find(reader, loop, found);
-    std::stable_sort(found.begin(), found.end(), [](const candidate &one, const candidate &other) {
-        return one.depth != other.depth ? one.depth > other.depth : one.added < other.added;
-    });
-    for (const candidate &each : found)
-        is_made |= make(of, each.loop);
+    bool is_made = simplify_loops(function, manager);
+    const analyses of = analyses_of(function, manager);
+    for (Loop *loop : find_tested(of))
+        is_made |= make(of, loop);
     return is_made ? PreservedAnalyses::none() : PreservedAnalyses::all();
 }
 

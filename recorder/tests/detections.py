@@ -153,7 +153,7 @@ def check_long_path(_: Suite, folder: str, compiler: Compiler) -> None:
     for length in (20, *range(60, 130, 7), 250):
         deep = f"{folder}/{length}/{'d' * (length // 2)}/{'e' * (length // 2)}"
         os.makedirs(deep)
-        write(deep, **{"table_c": "int table[4];\nint main(int n, char **v) { return ((volatile int *)table)[n + 3]; }"})
+        write(deep, table_c="int table[4];\nint main(int n, char **v) { return ((volatile int *)table)[n + 3]; }")
         os.rename(f"{deep}/table.c", f"{deep}/{name}")
         compiler.c(folder, [f"{deep}/{name}"], f"{folder}/recorded", "-w")
         run(["./recorded"], folder, **ON)

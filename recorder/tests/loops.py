@@ -226,6 +226,45 @@ def check_growth(_suite: Suite, folder: str, compiler: Compiler) -> None:
     expect((b"__asan_good_" in symbols, code <= code_without * 1.05 + 1000), (True, True), f"{code}, {code_without}")
 
 
+def copied(path: str) -> List[str]:
+    """The functions that have a copy of a loop, by a file in assembly."""
+    found, function = set(), ""
+    with open(path, encoding="utf-8") as file:
+        for line in file:
+            name = re.match(r"(\w+):", line)
+            function = name[1] if name else function
+            if "call" in line and "__asan_good_" in line:
+                found.add(function)
+    return sorted(found)
+
+
+def check_deep(_suite: Suite, folder: str, compiler: Compiler) -> None:
+    """A nest gets a copy, although many loops come before it."""
+    write_many(folder, 80)
+    with open(f"{folder}/many.c", "a", encoding="utf-8") as file:
+        file.write("void last(int *a, const int *b, int n)\n{\n    for (int i = 0; i < n; i++)\n"
+                   "        for (int j = 0; j < n; j++)\n            a[i] += b[i * n + j];\n}\n")
+    compiler.c(folder, [f"{folder}/many.c"], f"{folder}/many.s", "-O2", "-S", LOOPS)
+    found = copied(f"{folder}/many.s")
+    expect(("last" in found, len(found) < 40), (True, True), f"{found}")
+
+
+def check_profile(_suite: Suite, folder: str, compiler: Compiler) -> None:
+    """A loop that a profile has most often gets a copy, and one that it has never gets none."""
+    write_many(folder, 80)
+    with open(f"{folder}/many.c", "a", encoding="utf-8") as file:
+        file.write("static unsigned char a[4000], b[1000];\n"
+                   "int main(void)\n{\n    for (int i = 0; i < 100; i++)\n        f79(a, b, 1000);\n"
+                   "    f40(a, b, 2);\n}\n")
+    made = run([compiler.name, "-O2", "-fno-inline", "-fprofile-instr-generate", "many.c", "-o", "many"], folder)
+    run(["./many"], folder, LLVM_PROFILE_FILE="many.raw")
+    merged = run(["llvm-profdata", "merge", "many.raw", "-o", "many.data"], folder)
+    expect((made.returncode, merged.returncode), (0, 0), merged.stderr.decode())
+    flags = ["-O2", "-S", "-fno-inline", "-fprofile-instr-use=many.data", LOOPS]
+    compiler.c(folder, ["many.c"], f"{folder}/many.s", *flags)
+    expect(copied(f"{folder}/many.s"), ["f79"], "what has a copy")
+
+
 def check_cache(_suite: Suite, folder: str, compiler: Compiler) -> None:
     """A cache of compiled files sees which limit there is."""
     write_many(folder, 20)
@@ -247,6 +286,11 @@ def tests(suite: Suite, compiler: Compiler) -> None:
     suite.test(f"{compiler} loops options", check_options, compiler)
     suite.test(f"{compiler} loops broken", check_broken, compiler)
     suite.test(f"{compiler} loops growth", check_growth, compiler)
+    suite.test(f"{compiler} loops deep", check_deep, compiler)
+    if shutil.which("llvm-profdata"):
+        suite.test(f"{compiler} loops profile", check_profile, compiler)
+    else:
+        leave_out("llvm-profdata is not there")
     if shutil.which("ccache"):
         suite.test(f"{compiler} loops cache", check_cache, compiler)
     else:
