@@ -356,8 +356,8 @@ void report_segment(struct segment *segment)
         show(segment, asks);
         return;
     }
-    if (asks >= 0)
-        close(asks); /* then it prints its own */
+    if (asks >= 0) /* then it prints its own */
+        close(asks);
     if (!segments_are_several(segment->process)) /* what several come to is said once they are there */
         report_again(segment->process);
 }
