@@ -30,6 +30,7 @@ GUARD_OWN_OF_CALLER(dlopen);
 CHECK void *checked_dlopen(const char *file, int mode)
 {
     IS_OWN_FRAME; /* a constructor of the library may run */
+    note_before_init(NULL);
     void *opened = real_dlopen(file, mode);
     note_opened(opened, mode);
     return opened;
@@ -39,6 +40,7 @@ GUARD_OWN_OF_CALLER(dlmopen);
 CHECK void *checked_dlmopen(Lmid_t namespace, const char *file, int mode)
 {
     IS_OWN_FRAME;
+    note_before_init(NULL);
     void *opened = real_dlmopen(namespace, file, mode);
     note_opened(opened, mode);
     return opened;

@@ -47,14 +47,22 @@ static void show(const struct global *global, void *unused)
     shadow_poison(global->start + global->size, global->size_with_redzone - global->size, SHADE_GLOBAL);
 }
 
+/* A library was opened, and that ends the strict order: its files use the program's. */
+static _Atomic bool is_over;
+
 static int wanted(void)
 {
-    return is_on() ? recorder_settings()->init_order : 0;
+    int level = is_on() ? recorder_settings()->init_order : 0;
+    return level == STRICT && is_over ? 0 : level;
 }
 
 void init_order_before(const char *module)
 {
-    if (wanted() == 0)
+    if (module == NULL && wanted() == STRICT) {
+        globals_each(show, NULL);
+        is_over = true;
+    }
+    if (module == NULL || wanted() == 0)
         return;
     _Atomic uintptr_t *place = place_of((uintptr_t)module);
     if (wanted() != STRICT && *place == 0 && count < MOST_FILES / 2) {

@@ -7,7 +7,8 @@
 #ifndef ASANCOL_INIT_ORDER_H
 #define ASANCOL_INIT_ORDER_H
 
-/* Around the initialisers of a file, by the text that its globals have for it. An exit ends them as well. */
+/* Around the initialisers of a file, by the text that its globals have for it. An exit ends them as well.
+   Null: a library is opened. */
 void init_order_before(const char *module);
 void init_order_after(void);
 

@@ -147,6 +147,24 @@ def check_order_at_exit(suite: Suite, folder: str, compiler: Compiler) -> None:
         run(["rm", "t.trace", "t.trace.where"], folder)
 
 
+OPENS = """
+#include <cstdlib>
+#include <dlfcn.h>
+int mine = std::atoi("5");
+int value() { return mine; }
+int main() { return dlopen("./library.so", RTLD_NOW) != nullptr ? value() : 1; }
+"""
+
+
+def check_order_at_dlopen(suite: Suite, folder: str, compiler: Compiler) -> None:
+    """The strict order ends once a library is opened: its files may use the program's."""
+    write(folder, main_cpp=OPENS, library_cpp="int value(); int its = value();")
+    compiler.cpp(folder, ["library.cpp"], f"{folder}/library.so", "-O0", "-fPIC", "-shared")
+    compiler.cpp(folder, ["main.cpp"], f"{folder}/recorded", "-O0", "-rdynamic", "-ldl")
+    expect(run(["./recorded"], folder, **ON, ASANCOL_INIT_ORDER="2").returncode, 5, "the status")
+    expect(reports(suite.asancol, f"{folder}/t.trace")[1], [], "reports")
+
+
 def check_long_path(_: Suite, folder: str, compiler: Compiler) -> None:
     """If a global's file has a path without room, its name alone is said, whatever is cut."""
     name = "a-file-with-a-longer-name.c"
@@ -225,3 +243,4 @@ def tests(suite: Suite, compiler: Compiler) -> None:
     suite.test(f"{compiler} a global in a long path", check_long_path, compiler)
     if compiler.cxx:
         suite.test(f"{compiler} order of initialisation: exit", check_order_at_exit, compiler)
+        suite.test(f"{compiler} order of initialisation: dlopen", check_order_at_dlopen, compiler)
