@@ -45,7 +45,7 @@ def plant(room: str, planted: List[Planted]) -> None:
     """Makes a repository of the crate, with these edits and no others."""
     os.mkdir(f"{room}/crates")
     shutil.copy(f"{TOP}/HANDLES", room)
-    shutil.copytree(f"{TOP}/tests", f"{room}/tests", ignore=shutil.ignore_patterns("__pycache__"))
+    shutil.copytree(f"{TOP}/tools", f"{room}/tools", ignore=shutil.ignore_patterns("__pycache__"))
     leave = shutil.ignore_patterns("out", "mutants")
     shutil.copytree(f"{TOP}/crates/{CRATE}", f"{room}/crates/{CRATE}", ignore=leave)
     with open(f"{room}/crates.txt", "w", encoding="utf-8") as file:

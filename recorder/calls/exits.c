@@ -1,9 +1,10 @@
 /* The ways out of a process, most of them without its exit handlers, and those into another program.
 
    Called: by the program, in any thread, also in a handler and in a child of vfork. So nothing is allocated, and what
-   an exec is given as a list lies on the stack. Lock: none is held or taken here. By hooks.def ask_finish and ask_leave
-   take the loader's, the allocator's and the stream's, and the allocator's may be kept from ask_leave up to
-   note_exec_failed. fork and daemon come to the recorder's handlers of a fork, which take all three. */
+   an exec is given as a list lies on the stack. Lock: none is held or taken here, but a handler may have interrupted
+   the allocator. By hooks.def ask_finish and ask_leave take the loader's, the allocator's and the stream's, and the
+   allocator's may be kept from ask_leave up to note_exec_failed. fork and daemon come to the recorder's handlers of a
+   fork, which take all three. */
 #define _GNU_SOURCE
 #include <errno.h>
 #include <fcntl.h>

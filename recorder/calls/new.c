@@ -1,9 +1,10 @@
 /* Operators of C++. The malloc of a `new` is recorded with the call site of that, and with the size that was asked for.
    And a block is known by the operator that has allocated it: another family of functions must not free it.
 
-   Called: by the program, in any thread, also in a signal handler as far as a program may allocate there. Lock: none is
-   held; the malloc or free that the operator calls takes the allocator's, and the first operator of a module the
-   loader's for a moment (dladdr). */
+   Called: by the program, in any thread, also in a signal handler as far as a program may allocate there. Lock: the
+   caller has none of the recorder's, but may have the loader's, as a constructor of a module that is being loaded. The
+   malloc or free that the operator calls takes the allocator's. The first operators of a module, maybe in several
+   threads at once, take the loader's for a moment (dladdr), so no thread may wait here for another one. */
 #define _GNU_SOURCE
 #include <dlfcn.h>
 #include <stdatomic.h>

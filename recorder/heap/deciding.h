@@ -1,9 +1,9 @@
 /* The decision about the allocator's memory that lean recording states before a fault, by values alone.
    crates/asan_plan decides the same, and proves its effect: recorder/tests/plans.c compares the two.
 
-   Called: by the book (book.c), which reads the values, and writes the decision; decide_block is called in
-   deciding.c alone. In the thread with the fault, also in a handler, with the allocator's lock. None is needed:
-   nothing is shared. */
+   Called: by the book (book.c), which reads the values, and writes the decision; decide_block is called in deciding.c
+   alone. In the thread with the fault, also in a handler. Lock: the allocator's is held, and has to be, since the
+   entries given are the book's own. Nothing else that is shared is read, and nothing is written or taken. */
 #ifndef ASANCOL_DECIDING_H
 #define ASANCOL_DECIDING_H
 

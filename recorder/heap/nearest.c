@@ -1,6 +1,7 @@
 /* The block that is nearest to a bad access, and the end of the one around an address: by the notes on blocks and
-   units, which another thread may be changing, or which this thread was changing when a signal came. Each is read once
-   into a `struct slot`, and nothing of it is believed.
+   units, which another thread may be changing, or which this thread was changing when a signal came. Each is copied
+   once, field by field (unit_now, noted_now), so a copy may mix two states: its numbers are checked before they are
+   used. A unit is asked for that has notes: others fault.
 
    Called: as arena.h says of its last three; of heap.h heap_poison_count by compiled code (interface/variables.c),
    which writes the shadow and may record (regions.h), heap_end_around by process/threads.c, and heap_start_around by

@@ -2,10 +2,12 @@
    lsan_interface.h declare. A program that is built for AddressSanitizer may call these, and has to link and run.
    docs/RECORDER.md says which do something here.
 
-   Called: by the program, in any thread, also in a signal handler; interface_start by start.c. Lock: the caller has
-   none of the recorder's, and none is taken here. By the table of hooks.def sizes and counts of blocks, ignored blocks,
-   root regions and a search for leaks take the allocator's; a record of poison or of an access, where a segment is
-   full, that and the stream's.
+   Called: by the program, in any thread, also in a signal handler; interface_start by start.c. Lock: none is taken
+   here. The caller has none of the recorder's, except that a handler may have interrupted the allocator, and that a
+   callback for a report has the one of reports.c: so nothing here may wait for that. By the table of hooks.def sizes
+   and counts of blocks, ignored blocks, root regions and a search for leaks take the allocator's; a record of poison or
+   of an access, where a segment is full, that and the stream's. A wrong call (note_wrong_call) may take the stream's,
+   and the program's callbacks for a report run meanwhile.
 
    Poison and unpoison are recorded, and questions about them are answered by the shadow. Reports are not there: they
    come from the collector. All are weak: a program has its own callbacks and options, and another sanitizer of the

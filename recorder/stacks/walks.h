@@ -6,7 +6,8 @@
 
    A thread that has walked some times takes a place for its walks, of which 128 KiB are for 8,192 frames, and gives it
    back at its end. A place is a part of a table of zeros, of which the system gives a page once that is written to:
-   nothing is allocated. It is emptied if it is full, and if rules may have changed.
+   nothing is allocated. It is emptied if it is full, if rules may have changed, and if a walk was left by a jump: then
+   it may be in any state.
 
    Called: walks_recall by stacks.c, and the rest by unwinding.c as it walks, in the thread that walks, also in a
    handler; walks_give by process/threads.c, as the thread ends; walks_are_alone by process/process.c, in a forked

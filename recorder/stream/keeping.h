@@ -1,10 +1,11 @@
 /* Keeping a stream whole: it has a right end whenever it ends, and where nothing more can be kept that is said.
 
-   Called: with the stream's lock, in any thread, also in a handler: tail_length and tail_put by ending.c, tail_trim
-   by that and switching.c, tail_take_close_away by ending.c and suspending.c, tail_leave and keeping_give_up_at by
-   switching.c, and keeping_give_up by growing.c, sending.c and suspending.c. Without it: tail_follow by places.c,
-   keeping_leave_out by that and ending.c, stream_say_left_out by process/process.c; stream_stop, which takes it, by
-   heap/ and process/process.c; and stream_has_lost, by process/signals.c in a handler. */
+   Called: with the stream's lock, in any thread, also in a handler: tail_length and tail_put by ending.c, tail_trim by
+   that and switching.c, tail_take_close_away by ending.c and suspending.c, tail_leave and keeping_give_up_at by
+   switching.c, keeping_give_up by growing.c, sending.c and suspending.c, and keeping_leave_out by ending.c. Without it:
+   tail_follow and keeping_leave_out by places.c, stream_say_left_out by process/process.c; stream_stop, which takes it,
+   by heap/, also where a handler jumps out of the allocator, and by process/process.c in a forked child: its caller is
+   in the allocator or has locked it. stream_has_lost, by process/signals.c in a handler, needs none. */
 #ifndef ASANCOL_KEEPING_H
 #define ASANCOL_KEEPING_H
 

@@ -1,9 +1,10 @@
 /* The places of records: what remains to be done where the fast path (record.h) finds something unusual.
 
-   Called: stream_wake by record.h, watched.c, findings.c and heap/freeing.c; record_too_late by record.h and
-   watched.c; record_access_slowly by record.h; stream_reserve by regions.c; stream_open_place by watched.c: in any
-   thread, also in a handler. The stream's lock is not held, except at a snapshot, whose thread gets its places by
-   switching.c; it is taken here to make room, to end or to switch. `is_of_heap` says that the allocator's is held. */
+   Called: stream_wake by record.h, watched.c, findings.c and heap/freeing.c; record_too_late by record.h and watched.c;
+   record_access_slowly by record.h; stream_reserve by regions.c; stream_open_place by watched.c: in any thread, also in
+   a handler. The stream's lock is not held, except at a snapshot, whose thread gets its places by switching.c; it is
+   taken here to wait for a thread that switches, to make room, to end or to switch. `is_of_heap` says that the
+   allocator's is held. */
 #ifndef ASANCOL_PLACES_H
 #define ASANCOL_PLACES_H
 

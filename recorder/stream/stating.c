@@ -9,6 +9,7 @@
    thread continues after this many. */
 enum { LOOKS = 10000 };
 
+/* tests/classes.py takes this function by its first line, and compiles it alone. */
 static enum kind kind_of(unsigned char code)
 {
     switch (code) {

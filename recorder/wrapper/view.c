@@ -1,4 +1,5 @@
-/* A view is a pointer and a size, and each look into it is bounded. */
+/* A view is a pointer and a size, and each look into it is bounded. view_section alone has no bound of its own: it is
+   asked for numbers below view_section_count. */
 #define _GNU_SOURCE
 #include "wrapper/view.h"
 

@@ -4,6 +4,7 @@ from __future__ import annotations
 
 import copy
 import os
+import signal
 from typing import Callable, Iterator, List, Set
 
 from .asan_text import AsanText
@@ -16,14 +17,21 @@ from .results import Process, Results
 from .text import Colors
 
 
-class LogPath:
-    """The files whose names begin so. One that an earlier run has left is written anew."""
+# The signals whose handlers AddressSanitizer does not install by default (`handle_abort` and the like).
+UNHANDLED = {signal.SIGABRT, signal.SIGILL, signal.SIGTRAP, signal.SIGSYS}
 
-    def __init__(self, prefix: str, root: str, results: Results, counts: Callable[[Finding], bool]) -> None:
+
+class LogPath:
+    """The files whose names begin so. One that an earlier run has left is written anew. If they stand for
+    AddressSanitizer's own (`is_as_there`), a process that a signal of UNHANDLED ended has no file for that."""
+
+    def __init__(self, prefix: str, root: str, results: Results, counts: Callable[[Finding], bool],
+                 is_as_there: bool) -> None:
         self.prefix = prefix
         self.root = root
         self.results = results
         self.counts = counts
+        self.silent = UNHANDLED if is_as_there else set()
         self.begun: Set[int] = set()  # processes that have a file
         self.live: Set[int] = set()  # runs whose processes came one by one
 
@@ -56,7 +64,7 @@ class LogPath:
             self.append(pid, lambda text: text.findings_text(those, self.results))
 
     def write_crash(self, run: int, process: Process) -> None:
-        if not process.is_crash:
+        if not process.is_crash or process.signal in self.silent:
             return
         crash = Crash(process.crash_class, process.signal, process.address, process.end, "", process.stack)
         bases = self.results.bases.get((run, process.number), {})

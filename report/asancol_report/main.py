@@ -72,7 +72,7 @@ class Report:
             return None
         from .log_path import LogPath
         self.results.has_log = True
-        return LogPath(prefix, self.root, self.results, self.counts)
+        return LogPath(prefix, self.root, self.results, self.counts, self.is_log_alone)
 
     def write_log(self, write: Callable[[], None]) -> None:
         try:

@@ -257,6 +257,8 @@ def check_log_path(suite: Suite, folder: str) -> None:
             check(way, text, suite.run("--live", "--", suite.program, way, **given), True)
             check(way, text, suite.run("-q", "--", suite.program, way, **given), False)
             check(way, text, suite.run_argv([suite.program, way], ASANCOL_RUN=RUN, **given), False)
+    aborted = suite.run("--", suite.program, "aborts", ASAN_OPTIONS=f"log_path={folder}/log", ASANCOL_REPORT=REPORT)
+    expect((aborted.status, glob.glob(f"{folder}/log.*")), (0, []), "a child that aborts")
     alone = suite.run_argv([suite.program, "past"], ASANCOL_HALT="1", ASAN_OPTIONS=f"log_path={folder}/alone")
     expect((alone.status, alone.err), (-signal.SIGABRT, ""), "without a run")
     (path,) = glob.glob(f"{folder}/alone.*")
