@@ -91,6 +91,9 @@ void halt_is_waited_for(void)
 {
     enum { SPAN_MS = 10 };
     const struct timespec span = {.tv_nsec = SPAN_MS * 1000 * 1000};
+    /* A filter of the program's may end it at a system call: most exits make none here. */
+    if (!atomic_load(&is_waiting))
+        return;
     uint64_t own = (uint64_t)self_process() << 32 | (uint32_t)system_gettid();
     for (int left = recorder_settings()->patience_ms; left > 0 && atomic_load(&is_waiting); left -= SPAN_MS) {
         uint64_t other = atomic_load(&halting);
