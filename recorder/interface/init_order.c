@@ -6,6 +6,7 @@
 #include <stdbool.h>
 
 #include "process/process.h"
+#include "process/threads.h"
 #include "environment/settings.h"
 #include "shadow/globals.h"
 #include "shadow/shadow.h"
@@ -47,7 +48,7 @@ static void show(const struct global *global, void *unused)
     shadow_poison(global->start + global->size, global->size_with_redzone - global->size, SHADE_GLOBAL);
 }
 
-/* A library was opened, and that ends the strict order: its files use the program's. */
+/* A library was opened, whose files use the program's, or a thread started: either ends the strict order. */
 static _Atomic bool is_over;
 
 static int wanted(void)
@@ -56,9 +57,19 @@ static int wanted(void)
     return level == STRICT && is_over ? 0 : level;
 }
 
+/* A static program does not say when its first thread is created. */
+static bool has_threads(void)
+{
+#ifdef IS_STATIC
+    return false;
+#else
+    return atomic_load(&threads_started);
+#endif
+}
+
 void init_order_before(const char *module)
 {
-    if (module == NULL && wanted() == STRICT) {
+    if (wanted() == STRICT && (module == NULL || has_threads())) {
         globals_each(show, NULL);
         is_over = true;
     }

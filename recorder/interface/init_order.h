@@ -8,7 +8,7 @@
 #define ASANCOL_INIT_ORDER_H
 
 /* Around the initialisers of a file, by the text that its globals have for it. An exit ends them as well.
-   Null: a library is opened. */
+   Null: a library is opened. That, or a thread, ends the strict order. */
 void init_order_before(const char *module);
 void init_order_after(void);
 

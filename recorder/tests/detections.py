@@ -165,6 +165,28 @@ def check_order_at_dlopen(suite: Suite, folder: str, compiler: Compiler) -> None
     expect(reports(suite.asancol, f"{folder}/t.trace")[1], [], "reports")
 
 
+STARTS_THREAD = """
+#include <pthread.h>
+#include <cstdlib>
+int mine = std::atoi("5");
+static void *look(void *) { return &mine; }
+struct starter {
+    pthread_t made;
+    starter() { pthread_create(&made, nullptr, look, nullptr); }
+    ~starter() { pthread_join(made, nullptr); }
+} one;
+int main() { return mine; }
+"""
+
+
+def check_order_with_threads(suite: Suite, folder: str, compiler: Compiler) -> None:
+    """The strict order ends once a thread was started, which may look at any file's globals."""
+    write(folder, main_cpp=STARTS_THREAD, second_cpp="extern int mine; int its = mine;")
+    compiler.cpp(folder, ["main.cpp", "second.cpp"], f"{folder}/recorded", "-O0", "-pthread")
+    expect(run(["./recorded"], folder, **ON, ASANCOL_INIT_ORDER="2").returncode, 5, "the status")
+    expect(reports(suite.asancol, f"{folder}/t.trace")[1], [], "reports")
+
+
 def check_long_path(_: Suite, folder: str, compiler: Compiler) -> None:
     """If a global's file has a path without room, its name alone is said, whatever is cut."""
     name = "a-file-with-a-longer-name.c"
@@ -244,3 +266,4 @@ def tests(suite: Suite, compiler: Compiler) -> None:
     if compiler.cxx:
         suite.test(f"{compiler} order of initialisation: exit", check_order_at_exit, compiler)
         suite.test(f"{compiler} order of initialisation: dlopen", check_order_at_dlopen, compiler)
+        suite.test(f"{compiler} order of initialisation: threads", check_order_with_threads, compiler)
