@@ -7,8 +7,8 @@ clause` each word of that column has to be a function, a clause, a definition or
 begins with a capital has to occur. What follows a function there, up to a `;` and not in brackets,
 has to be a clause of a function of that name, or a public function or a test; functions of one name
 count as one. A link that is no address has to lead to a file and, after `#`, to a heading of it. Each
-target of `make` has to be in the Makefile. A golden row has the events and the lines of the rows
-that its title names.
+target of `make` has to be in the Makefile. A line of a code block has one command. A golden row has the
+events and the lines of the rows that its title names.
 """
 
 import os
@@ -252,6 +252,13 @@ def bad_examples(page: str, text: str, known: Dict[str, Row]) -> Iterator[Findin
                 yield page, line, f"not what the rows of examples/golden say: {title}"
 
 
+def joined_commands(page: str, text: str) -> Iterator[Finding]:
+    """Goes over lines of commands with two comments: a second command was run into the first."""
+    for number, line in enumerate(text.split("\n"), 1):
+        if line.startswith("    ") and len(re.findall(r"\S {2,}# \S|\S # \S", line)) > 1:
+            yield page, number, "two commands in one line"
+
+
 def targets_of(tree: Tree) -> Dict[str, Set[str]]:
     """Returns the targets of each Makefile, by its folder."""
     found = {}
@@ -274,3 +281,4 @@ def findings(tree: Tree, known: Dict[str, Row]) -> Iterator[Finding]:
         yield from bad_cells(page, text, tree)
         yield from bad_targets(page, text, targets)
         yield from bad_examples(page, text, known)
+        yield from joined_commands(page, text)
