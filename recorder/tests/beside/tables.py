@@ -67,7 +67,6 @@ KNOWN: List[Row] = [
     Row("compiler-rt", "log-path_test.cpp", "AddressSanitizer's report goes to a file"),
     Row("compiler-rt", "suppressions-exec-relative-location.cpp",
         "AddressSanitizer does not start without its file of suppressions; here a line names it"),
-    Row("compiler-rt", "verbose-log-path_test.cpp", "AddressSanitizer's report goes to a file"),
     Row("compiler-rt", "wild_pointer.cpp",
         "AddressSanitizer looks at the end of the range first, which no process has; here the first bad byte counts"),
     Row("compiler-rt", "contiguous_container_crash.cpp",
