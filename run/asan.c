@@ -1,5 +1,5 @@
-/* Each word of the two variables goes to one function by the row of its option. Its effect is counted by kind, and said
-   in one line for each variable. */
+/* Each word of the two variables takes effect by the row of its option. The words are listed by what became of them: in
+   at most one line of the verdict for each variable, and with --verbose in two more. */
 #define _GNU_SOURCE
 #include "asan.h"
 

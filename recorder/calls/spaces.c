@@ -1,7 +1,8 @@
 /* Memory that becomes something else: a stack of the program's own may have been there, whose redzones must not stay.
+   Here are mmap and the like, makecontext and switches of contexts; and mlockall, which must not lock the shadow.
 
-   Called: by the program's mmap and the like, in any thread, also in a signal handler. Lock: none: the shadow
-   and atomic tables are written. */
+   Called: by the program's calls of these, in any thread, also in a signal handler. Lock: none: the shadow, the
+   thread's own data and atomic tables are written; by mlockall only errno. A check also calls the function itself. */
 #define _GNU_SOURCE
 #include <errno.h>
 #include <stdarg.h>

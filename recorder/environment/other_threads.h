@@ -1,8 +1,9 @@
 /* Whether a process has other threads, as the system says.
 
-   Called: by world.c in the search for leaks (with the loader's and the allocator's lock), by ending.c and root.c, and
-   by library.c in a forked child; in any thread, also in a signal handler. Lock: it takes none: it makes calls of the
-   system alone, and keeps nothing. */
+   Called: has_other_threads by world.c, by ending.c, also with the stream's lock, by root.c, and by library.c in a
+   forked child; the others by world.c alone. world.c has the allocator's lock, and in a search for leaks mostly the
+   loader's too (leaks.h), but not at an exit. In any thread, also in a signal handler. Lock: it takes none: it makes
+   calls of the system alone, and keeps nothing. */
 #ifndef ASANCOL_OTHER_THREADS_H
 #define ASANCOL_OTHER_THREADS_H
 

@@ -1,5 +1,6 @@
 /* A hash table of the files that have been initialised. The loader's lock, or the start of the program, lets one thread
-   at a time initialise: so nothing is guarded here. */
+   at a time initialise, unless a thread of a constructor opens a library before main. A dlopen or an exit of another
+   thread comes without a lock, and only shows globals. So nothing is guarded here. */
 #include "interface/init_order.h"
 
 #include <stdatomic.h>

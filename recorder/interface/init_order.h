@@ -1,9 +1,11 @@
 /* Globals that have no value yet, while a file initialises its own: an access to one is bad then, since it depends on
    the order of files. As AddressSanitizer's check_initialization_order.
 
-   Called: by the constructors of a module (callbacks.c, by hooks.def), in the thread that loads it, never in a signal
-   handler; init_order_after also by an exit (calls/exits.c). Lock: the loader's, or there is one thread: so nothing is
-   guarded here. An exit beside a dlopen may show or hide a file's globals too early. */
+   Called: by the constructors of a module (callbacks.c, by hooks.def), in the thread that loads it, not in a signal
+   handler; init_order_before with null by calls/modules.c before a dlopen, in the thread that opens, not in a handler;
+   init_order_after also by an exit (calls/exits.c), in any thread, also in a handler. Lock: the constructors have the
+   loader's, or it is the start of the program; a dlopen and an exit have none here, and may show the globals of another
+   thread's file too early. None is taken, and nothing is guarded here. */
 #ifndef ASANCOL_INIT_ORDER_H
 #define ASANCOL_INIT_ORDER_H
 

@@ -3,9 +3,9 @@
 
    Called: leaks_look_at_end by start/start.c at an exit, the others by the program (__lsan_.. of interface.c, by
    hooks.def), in the thread that does so; in a handler too, but nothing is found if that has interrupted the allocator.
-   Lock: the caller has none. Taken here are the loader's and then the allocator's; in a static program, and in a child
-   forked from threads while it has one thread, the allocator's alone; leaks.c says what may be called with them.
-   Findings are noted once they are given back. */
+   Lock: the caller has none of the recorder's. Taken here are the loader's and then the allocator's; in a static
+   program, and in a child forked from threads while it has one thread, the allocator's alone; leaks.c says what may be
+   called with them. Findings are noted once they are given back. */
 #ifndef ASANCOL_LEAKS_H
 #define ASANCOL_LEAKS_H
 

@@ -2,8 +2,8 @@
    parts of its modules, and what it has named.
 
    Called: by leaks.c, in the thread that looks for leaks, maybe in a handler (leaks.h), while all others stand still.
-   Lock: the loader's and the allocator's, which leaks.c has taken as leaks.h says. dl_iterate_phdr takes the loader's
-   once more, as a thread may; nothing else that takes a lock is called. */
+   Lock: the allocator's, and the loader's too where leaks.h says so: leaks.c has taken them. There dl_iterate_phdr
+   takes the loader's once more, as a thread may; nothing else that takes a lock is called. */
 #ifndef ASANCOL_ROOTS_H
 #define ASANCOL_ROOTS_H
 

@@ -6,9 +6,11 @@
 
    If this is preloaded, the program is plain too, and is looked at as they are.
 
-   The loader's lock is held in read_library, look_at and what that calls (dl_iterate_phdr). It guards the `static`
-   variables here. answer_dlsym and answer_dlvsym take it too, and then the stream's: a plain library's dlsym comes to
-   them, in its thread, not in a handler. */
+   The loader's lock is held in read_library, look_at and what that calls (dl_iterate_phdr); but in a child forked from
+   threads nobody takes it while there is one thread (library_go_without_lock). It guards `known` and its count. is_on
+   is atomic, and the other `static` variables are written by plain_begin alone, before that is set. answer_dlsym and
+   answer_dlvsym take it too, and then the stream's: a plain library's dlsym comes to them, or any module's if this is
+   preloaded, in its thread, not in a handler. */
 #define _GNU_SOURCE
 #include "process/plain.h"
 

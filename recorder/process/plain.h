@@ -1,8 +1,9 @@
 /* What plain libraries call: those that asancol-cc did not link.
 
-   Called: plain_begin by first_call.c, or if this is preloaded by preload_wait.c, at the first fault perhaps in a
-   signal handler; plain_look_again by hooks.c after a dlopen and by preload_wait.c, in the thread that loads the
-   library; plain_instead_of by finding.c (hooks.def), in the thread that calls dlsym: both not in a handler.
+   Called: plain_begin by first_call.c, in the first thread, or if this is preloaded by preload_wait.c, once, with the
+   first checks or fault, in any thread, perhaps in a signal handler; plain_look_again by hooks.c after a dlopen and by
+   preload_wait.c, in the thread that loads the library; plain_instead_of by finding.c (hooks.def), in the thread that
+   calls dlsym: both not in a handler.
    plain_is_of_library also by unchecked.c, in any thread and in a handler, with the stream's or the allocator's lock.
    Lock: the first three take the loader's, so their callers have none of the recorder's; the last takes none. */
 #ifndef ASANCOL_PLAIN_H

@@ -4,7 +4,8 @@
 
    Called: unused_show by heap/poisoning.c and retiring.c with central; unused_show_again by retiring.c, for units
    that the thread has just retired, which needs no lock; unused_hide by numbers.c with all of the allocator
-   (heap/blocks.h): in the thread that is in the allocator, also in a handler that was let in. */
+   (heap/blocks.h): in the thread that is in the allocator, also in a handler that was let in. In a child that a handler
+   has forked in the allocator, that handler calls unused_hide with no lock: there is no other thread. */
 #ifndef ASANCOL_UNUSED_H
 #define ASANCOL_UNUSED_H
 
