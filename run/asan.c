@@ -221,6 +221,8 @@ static enum done note_for_processes(struct options *options, const struct asan_w
         return WITHOUT_EFFECT;
     if (word->option == ASAN_halt_on_error)
         options->may_halt = asan_is_yes(word);
+    if (word->option == ASAN_abort_on_error)
+        options->may_halt |= asan_is_yes(word);
     if (word->option == ASAN_alloc_dealloc_mismatch || word->option == ASAN_new_delete_type_mismatch)
         options->allows_mismatches |= asan_is_no(word);
     if (word->option == ASAN_detect_stack_use_after_return)

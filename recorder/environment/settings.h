@@ -44,6 +44,7 @@ struct settings {
     bool keeps_empty; /* realloc to no bytes gives a block, as without
                          allocator_frees_and_returns_null_on_realloc_zero */
     enum halt halt;
+    int halt_status; /* with which a process that halts exits; below 0: SIGABRT ends it */
     bool checks_libraries; /* what plain libraries call, too */
     const char *passed_over; /* the hub that the environment names beside a trace, or null */
     uint64_t root;           /* the process that has started the run for itself (process/root.h); 0: none */

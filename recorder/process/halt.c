@@ -20,6 +20,7 @@
 #include "process/process.h"
 #include "process/signals.h"
 #include "process/preload_wait.h"
+#include "process/root.h"
 #include "stream/record.h"
 #include "stream/side.h"
 #include "stream/state.h"
@@ -132,6 +133,16 @@ static bool is_first_to_halt(void)
     return false;
 }
 
+/* By SIGABRT, or with the status that AddressSanitizer's options give. */
+_Noreturn static void end_process(void)
+{
+    int status = recorder_settings()->halt_status;
+    if (status < 0)
+        signals_abort();
+    int of_run = root_end_at_exit(status << 8);
+    system_exit(of_run != STATUS_STAYS ? of_run : status);
+}
+
 void halt_at(enum code code, unsigned width, uint64_t address, uintptr_t caller, struct access *whole)
 {
     if (!recorder_halts()) {
@@ -142,7 +153,7 @@ void halt_at(enum code code, unsigned width, uint64_t address, uintptr_t caller,
     }
     /* In a child of vfork all memory is its parent's, which has not halted. */
     if (!recorder_is_own_process())
-        signals_abort();
+        end_process();
     if (!is_first_to_halt())
         return;
     if (recorder_begins_late() && recorder_begin_late())
@@ -161,5 +172,5 @@ void halt_at(enum code code, unsigned width, uint64_t address, uintptr_t caller,
     halt_is_first_crash();
     if (callback != NULL)
         callback();
-    signals_abort();
+    end_process();
 }

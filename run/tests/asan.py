@@ -42,6 +42,23 @@ def check_statuses(suite: Suite, folder: str) -> None:
     ran(99, PAST, "without effect here: log_path=/proc/new/log\n", ASAN_OPTIONS="log_path=/proc/new/log")
 
 
+def check_ends(suite: Suite, folder: str) -> None:
+    """With abort_on_error=1 a process ends at its first report by SIGABRT, and with 0, if it halts, with AddressSanitizer's
+    status."""
+    def ends(options: str, status: int, *texts: str) -> None:
+        result = f"{folder}/r"
+        words = ["--json", result, "--", "sh", "-c", f"{suite.program} past; echo status $?"]
+        ran = suite.run(*words, ASAN_OPTIONS=options, ASANCOL_REPORT=REPORT)
+        expect_ran(ran, status, *texts)
+    ends("abort_on_error=1", 99, "status 134\n", HALTED)
+    ends("abort_on_error=1:halt_on_error=0", 99, "status 0\n", PAST)
+    ends("abort_on_error=0", 99, "status 0\n", PAST)
+    ends("abort_on_error=0:halt_on_error=1", 99, "status 1\n", HALTED)
+    ends("abort_on_error=0:halt_on_error=1:exitcode=42", 42, "status 42\n", HALTED)
+    halts = {"ASAN_OPTIONS": "abort_on_error=0:halt_on_error=1", "ASANCOL_REPORT": REPORT}
+    expect(suite.run_argv([suite.program, "past"], ASANCOL_RUN=RUN, **halts).status, 99, "the status of its own run")
+
+
 def check_named(suite: Suite, folder: str) -> None:
     """What has no effect and could change a result is said once, and the rest with --verbose."""
     words = "halt_on_eror=1,log_to_syslog=1 symbolize=0:start_deactivated=1:detect_write_exec=0:x:exitcode=3"
