@@ -43,8 +43,8 @@ def check_statuses(suite: Suite, folder: str) -> None:
 
 
 def check_ends(suite: Suite, folder: str) -> None:
-    """With abort_on_error=1 a process ends at its first report by SIGABRT, and with 0, if it halts, with AddressSanitizer's
-    status."""
+    """With abort_on_error=1 a process ends at its first report by SIGABRT, and with 0, if it halts, with the status of
+    AddressSanitizer."""
     def ends(options: str, status: int, *texts: str) -> None:
         result = f"{folder}/r"
         words = ["--json", result, "--", "sh", "-c", f"{suite.program} past; echo status $?"]
