@@ -9,7 +9,7 @@
 
 #include <stdbool.h>
 
-#include "common/strings.h"
+#include "common/string_list.h"
 #include "options.h"
 #include "processes.h"
 

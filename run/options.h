@@ -9,7 +9,7 @@
 #include <stddef.h>
 #include <stdint.h>
 
-#include "common/strings.h"
+#include "common/string_list.h"
 #include "unchecked.h"
 
 /* What happens to leaks: they are summed up, nobody looks for them, or each place is a report. */

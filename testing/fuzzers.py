@@ -79,7 +79,7 @@ TARGETS = [
            [b"p0 end ", b"events ", b" reports ", b" checked "]),
     Target("asancol-run: arguments", [f"{THEIRS}/arguments.c", f"{THEIRS}/ends.c", f"{RUN}/options.c", f"{RUN}/names.c",
                                    f"{RUN}/preload.c", f"{RUN}/asan.c", f"{RUN}/source_url.c", f"{COMMON}/path.c",
-                                   f"{COMMON}/strings.c"],
+                                   f"{COMMON}/string_list.c"],
            RUNS, [b"--wait=", b"--at-least=", b"%q{", b"}", b"--quarantine=", b"--html=", b"--source-url=x:{file}"],
            ["-Dexit=fuzz_exit", "-include", f"{THEIRS}/ends.h", '-DRELEASE="1"']),
 ]

@@ -2,8 +2,8 @@
    status of the run.
 
    Called: root_end_by_signal and root_holds by signals.c, in the handler of a signal that ends the process, in any
-   thread; root_end_at_exit by start.c, hooks.c and halt.c, when nothing is recorded any more, in the thread that
-   ends the process, also in a handler. Lock: the caller has none; root_end_at_exit holds the allocator's while other threads
+   thread; root_end_at_exit by start.c, hooks.c and halt.c, when nothing is recorded any more, in the thread that ends
+   the process, also in a handler. Lock: the caller has none; root_end_at_exit holds the allocator's while other threads
    stand still. It asks over a connection of its own. */
 #ifndef ASANCOL_ROOT_H
 #define ASANCOL_ROOT_H

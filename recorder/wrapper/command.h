@@ -6,7 +6,7 @@
 
 #include <stdbool.h>
 
-#include "common/strings.h"
+#include "common/string_list.h"
 #include "wrapper/fronts.h"
 
 /* The wrapper's own options. ccache sees options, and no variables. */

@@ -5,7 +5,7 @@
 #ifndef ASANCOL_JOB_H
 #define ASANCOL_JOB_H
 
-#include "common/strings.h"
+#include "common/string_list.h"
 #include "wrapper/compilers.h"
 #include "wrapper/fronts.h"
 #include "wrapper/request.h"

@@ -1,8 +1,8 @@
 /* A list of strings that grows, such as the arguments of a command that will be run.
 
    Called: by asancol-run and the wrapper, in their one thread; no lock. It allocates. */
-#ifndef ASANCOL_STRINGS_H
-#define ASANCOL_STRINGS_H
+#ifndef ASANCOL_STRING_LIST_H
+#define ASANCOL_STRING_LIST_H
 
 #include <stddef.h>
 

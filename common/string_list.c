@@ -1,5 +1,5 @@
 /* An array with a null after the last item, which is made anew with each. */
-#include "common/strings.h"
+#include "common/string_list.h"
 
 #include <stdlib.h>
 
