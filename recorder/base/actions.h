@@ -1,7 +1,8 @@
 /* What the system does at a signal. The C library lets nobody handle the signals that it keeps for itself.
 
-   Called: by process/signals.c, in any thread, also in a handler, and by process/world.c, in the thread that stops
-   the others. No lock: each is one call of the system, which knows the action of the whole process. */
+   Called: by process/signals.c, and by process/world.c in the thread that stops the others: in any thread, also in a
+   handler, with or without locks. No lock here: each is one call of the system, which knows the action of the whole
+   process. */
 #ifndef ASANCOL_ACTIONS_H
 #define ASANCOL_ACTIONS_H
 

@@ -8,7 +8,8 @@
    jumps, new contexts and the end of a thread: each in the thread whose frames they are, also in a handler.
    fake_start_of by frames.c, in any thread, also in a handler. No lock: the thread alone uses its slot, and the list
    of free slots is atomic. By process/process.c fake_stack_start at the start, without a lock, and fake_stack_stop
-   with the allocator's. fake_each_frame by leaks/roots.c, while all other threads stand still. */
+   with the allocator's. fake_each_frame by leaks/roots.c, in the thread that looks for leaks, maybe in a handler, with
+   the allocator's lock, and the loader's where leaks.h says so; all other threads stand still. */
 #ifndef ASANCOL_FAKE_STACK_H
 #define ASANCOL_FAKE_STACK_H
 
@@ -56,7 +57,7 @@ void *fake_current(void);
    variables lie. Null: that is no frame of this fake stack that is in use. */
 void *fake_real_of(void *stack, uintptr_t address, uintptr_t *start, uintptr_t *end);
 
-/* Calls `visit` for each frame that is taken, of any thread. No thread runs. */
+/* Calls `visit` for each frame that is taken, of any thread. No other thread runs. */
 void fake_each_frame(void (*visit)(uintptr_t low, uintptr_t top));
 
 /* Where the frame starts that has this address, of any thread. 0: it is in none. */
