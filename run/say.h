@@ -2,7 +2,7 @@
 
    Called: by any file here: say_open, say_close and progress_allow by asancol-run.c, say_text by report.c,
    say_descriptor by that and command.c, progress and progress_line by loop.c, progress_erase by signals.c and
-   asancol-run.c; in the one thread of asancol-run; no lock. */
+   asancol-run.c; in the one thread of asancol-run, never in a handler; no lock. */
 #ifndef ASANCOL_RUN_SAY_H
 #define ASANCOL_RUN_SAY_H
 

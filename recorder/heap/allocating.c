@@ -5,7 +5,7 @@
    Called: as heap.h says; heap_allocate, heap_give_back and heap_move as blocks.h does. heap_set_bound,
    heap_ignore_next and heap_keep_empty take no lock, and any may be held. The callers of the others have none of the
    recorder's: heap_enter (entering.h) takes the thread's shard, or all. Inside run, of the static functions,
-   take_block, poison_around, populate, those that note and place, count_call, allocate_entered, which leaves, and
+   take_block, poison_around, populate, notes_on, note_.. and place_.., count_call, allocate_entered, which leaves, and
    find_arena and look_at_clock, which take central. The others run outside, as the program's hooks do. */
 #define _GNU_SOURCE
 #include "heap/heap.h"

@@ -5,7 +5,8 @@
 
    Called: as arena.h says of its last three; of heap.h heap_poison_count by compiled code (interface/variables.c),
    which writes the shadow and may record (regions.h), heap_end_around by process/threads.c, and heap_start_around by
-   that and the program. In any thread, also in a handler, with or without a lock: none is needed here. */
+   that and the program (interface.c, by hooks.def). In any thread, also in a handler, with or without a lock: none is
+   needed here. */
 #include "heap/arena.h"
 #include "heap/blocks.h"
 #include "heap/heap.h"

@@ -6,9 +6,10 @@
    later, and was linked by something else, finds these in the program.
 
    Called: by compiled code, in any thread, also in a signal handler, from before the first constructor on. Lock: the
-   program holds what it likes, and none of the recorder's. None is taken here; but the record of an access, where a
-   segment is full, and note_checks, if that begins the recording (preload_wait.h), take the allocator's and the
-   stream's. Nothing is allocated. */
+   program holds what it likes, and none of the recorder's. None is taken here; but the record of an access that is bad
+   or past a full segment, note_each_access, and note_checks, if that begins the recording (preload_wait.h), take the
+   allocator's and the stream's, and note_checks then the loader's; a finding (note_pair) may take the stream's. Either
+   record may run the program's code (telling.h). Nothing is allocated. */
 #ifndef ASANCOL_CALLBACKS_H
 #define ASANCOL_CALLBACKS_H
 

@@ -2,8 +2,9 @@
    has believed them.
 
    Called: by library.c, preload_choice.c, plain.c and odr.c, in the thread that starts the recorder or loads a library,
-   or that looks for a function (library_next), there also in a signal handler. Lock: it takes none, and only reads: the
-   caller has the loader's, or there is one thread. */
+   or that looks for a function (library_next), or if this is preloaded begins to record (plain_begin), in these two
+   also in a signal handler. Lock: it takes none, and only reads, but object_find may run a resolver: the caller has the
+   loader's, or there is one thread, or the object is the C library, which stays (preload_choice.c). */
 #ifndef ASANCOL_OBJECTS_H
 #define ASANCOL_OBJECTS_H
 

@@ -53,7 +53,7 @@ static const void *at_distance(const int32_t *from)
     return (const unsigned char *)from + *from;
 }
 
-/* The stubs by the hashes of their names: a number and 1, or 0. It is filled at the start. */
+/* The stubs by the hashes of their names: a number and 1, or 0. Filled by plain_begin, unless that does nothing. */
 enum { STUB_PLACES = 2048 };
 static AS_TABLE uint16_t stub_numbers[STUB_PLACES];
 

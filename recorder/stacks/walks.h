@@ -10,9 +10,9 @@
    it may be in any state.
 
    Called: walks_recall by stacks.c, and the rest by unwinding.c as it walks, in the thread that walks, also in a
-   handler; walks_give by process/threads.c, as the thread ends; walks_are_alone by process/process.c, in a forked
-   child. No lock: a place is its thread's alone, and who uses it sets `own_walks.walker`. A handler that finds that
-   set leaves the place alone. */
+   handler, with or without the allocator's lock; walks_give by process/threads.c, as the thread ends;
+   walks_are_alone by process/process.c, in a forked child. No lock here: a place is its thread's alone, and who uses
+   it sets `own_walks.walker`. A handler that finds that set leaves the place alone. */
 #ifndef ASANCOL_WALKS_H
 #define ASANCOL_WALKS_H
 
