@@ -1,8 +1,9 @@
 /* Descriptions of addresses and of code, as text: for what a program asks by AddressSanitizer's interface.
 
    Called: by reports.c; locate, module_of and stack_of_block by the program, through its table `reports`; in any
-   thread, also in a signal handler. Lock: it takes none, and writes the caller's room alone; what it asks of the
-   allocator and of globals needs none. It is slow, since the system is asked what can be read. */
+   thread, also in a signal handler. Lock: it takes none, and any may be held, as reports.c has its own while it tells;
+   it writes the caller's room alone, and what it asks of the allocator and of globals needs none. It is slow, since
+   the system is asked what can be read. */
 #ifndef ASANCOL_DESCRIBING_H
 #define ASANCOL_DESCRIBING_H
 

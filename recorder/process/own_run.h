@@ -9,7 +9,7 @@
 #include <stdbool.h>
 
 /* Starts it and executes the program again, if that is asked for and the process has nowhere to record to. The
-   environment is known, and nothing else of the recorder has begun. */
+   environment is known. Else only `library` has begun, and the allocator with the shadow if something was allocated. */
 void own_run_begin(void);
 /* Says why that was not done; or on a terminal that nothing is checked, of a program that was linked with
    -fsanitize=address. The settings are read. */

@@ -10,9 +10,10 @@
    of a fork.
    Lock: the caller has none of the recorder's, except that recorder_say_child and the questions take none, and any may
    be held. To begin takes the allocator's and then the stream's (README.md has the order), but not if a handler has
-   interrupted the allocator. To end takes the stream's, and leaves the allocator first if that was interrupted.
-   recorder_before_exec keeps the allocator's, and a fork both. Before these, an exit, an exec and a fork take the
-   loader's for a moment, but not in a handler that has interrupted the allocator. Nothing is allocated. */
+   interrupted the allocator. To end takes the stream's. If a handler that has interrupted the allocator has freed
+   something, an exit and recorder_finish leave it first, if they can, and take its lock; else it stays interrupted.
+   recorder_before_exec keeps the allocator's, and a fork both. Before these a start, an exit, an exec and a fork take
+   the loader's for a moment, but not in a handler while the allocator is interrupted. Nothing is allocated. */
 #ifndef ASANCOL_PROCESS_H
 #define ASANCOL_PROCESS_H
 
