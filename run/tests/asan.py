@@ -47,7 +47,7 @@ def check_ends(suite: Suite, folder: str) -> None:
     AddressSanitizer."""
     def ends(options: str, status: int, *texts: str) -> None:
         result = f"{folder}/r"
-        words = ["--json", result, "--", "sh", "-c", f"{suite.program} past; echo status $?"]
+        words = ["--json", result, "--", "sh", "-c", f"{suite.program} past; echo status $? >&2"]
         ran = suite.run(*words, ASAN_OPTIONS=options, ASANCOL_REPORT=REPORT)
         expect_ran(ran, status, *texts)
     ends("abort_on_error=1", 99, "status 134\n", HALTED)
@@ -397,7 +397,8 @@ def tests(suite: Suite) -> None:
         leave_out("asan: the variables are asancol-run's own")
         return
     for name, run in (
-        ("statuses", check_statuses), ("named", check_named), ("asked", check_asked), ("symbolizer", check_symbolizer),
+        ("statuses", check_statuses), ("ends", check_ends), ("named", check_named), ("asked", check_asked),
+        ("symbolizer", check_symbolizer),
         ("leaks", check_leaks), ("functions", check_functions), ("death test", check_death_test),
         ("halts", check_halts), ("halts at once", check_at_once), ("exit at a halt", check_exit_at_halt),
         ("log path", check_log_path),
