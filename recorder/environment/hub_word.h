@@ -1,8 +1,8 @@
 /* Word for a hub of what it does not see: else its run would look complete. None of this needs a descriptor if the
    process may write into the hub's folder. The hub is its socket's path, or null: then nothing is done.
 
-   Called: hub_word_note and hub_word_tell by orphan.c; hub_word_note also by foreign.c, mapping.c and process.c, and by
-   opening.c with the locks of the allocator and the stream; the others by exec_notice.c and process.c, hub_word_expect
+   Called: hub_word_note and hub_word_tell by orphan.c; hub_word_note also by foreign.c, mapping.c, process.c and
+   opening.c, perhaps with the allocator's lock; the others by exec_notice.c and process.c without one, hub_word_expect
    also by a resolver of the program (resolvers.c). In any thread, also in a signal handler, in a child of vfork, and in
    a child whose fork has just returned. Lock: it takes none, and nothing is allocated. */
 #ifndef ASANCOL_HUB_WORD_H
@@ -20,7 +20,7 @@ bool hub_word_tell(const char *hub, const char *why) OWN_NAME(hub_word_tell);
 /* This process becomes a program that asancol-cc has built, and is expected to connect. The text says why it did not if
    it never does. It answers 0; or -EEXIST, if there is one; or another error below zero. */
 int hub_word_expect(const char *hub, const char *program, const char *why);
-/* It has connected, or given word; or did not become it. */
+/* It has started, even if it does not connect yet; or it did not become it. */
 void hub_word_expect_no_more(const char *hub);
 /* A signal has ended this child. */
 void hub_word_killed(const char *hub, int child, int number);

@@ -324,7 +324,8 @@ bool arena_drop(uint32_t first, uint32_t count)
     return system_madvise(unit_start(first), (size_t)count * UNIT, MADV_DONTNEED) == 0;
 }
 
-/* Makes notes zeros. Those in a part of a page can't be given back. If memory is short some may not be there. */
+/* Makes notes zeros, except whole pages that the process has locked. Those in a part of a page can't be given back, and
+   have to be there: from FIRST_BIG on a unit has notes on its first slot alone (note_from). */
 static void wipe(void *notes, size_t bytes)
 {
     if (((uintptr_t)notes | bytes) % SYSTEM_PAGE != 0)

@@ -244,8 +244,8 @@ uint32_t arena_take_big(uint32_t count);
 bool arena_drop(uint32_t first, uint32_t count);
 /* The same for all units of a region, with what the system keeps of it. */
 void arena_renew_region(uint32_t region);
-/* Gives back the notes on the blocks of a unit, except on the first; or all notes on the units of a region, which are
-   new then. */
+/* Gives back the notes on the blocks of a slab, except on the first: a run has no others. Or all notes on the units of
+   a region, which are new then. */
 void arena_forget(uint32_t unit);
 void arena_forget_region(uint32_t region);
 /* Makes zeros of a block's bytes, which lie in a run. Whoever has the block needs no lock. */

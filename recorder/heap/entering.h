@@ -6,7 +6,7 @@
    has none that comes after: heap_enter takes the own shard, or all; heap_enter_all takes all, which is the gate's
    lock. Who was let in calls heap_leave, and only who was. heap_defer in a handler that was not. The functions
    before heap_enter are for that, for heap_leave and for entering.c alone. this_visit is the thread's own, and
-   entering.c alone writes it. */
+   entering.c alone writes it, with the functions that have their body here. */
 #ifndef ASANCOL_ENTERING_H
 #define ASANCOL_ENTERING_H
 

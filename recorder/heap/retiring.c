@@ -146,7 +146,7 @@ void retiring_undo(uint32_t number)
         SET_NOTE(heap.forgotten[region], heap.forgotten[region] - !has_notes);
     }
     SET_NOTE(unit->form, FORM_NONE);
-    if (has_notes)
+    if (has_notes && unit->kind == UNIT_SLAB)
         arena_forget(number);
     note_reuse();
 }

@@ -46,11 +46,14 @@ static inline uint32_t units_at(uint32_t number)
     return NOTE_NOW(unit->kind) == UNIT_RUN ? NOTE_NOW(unit->count) : 1;
 }
 
-/* Whether it is in the body of a run whose notes went back with the region in which it begins. */
+/* Whether it is in the body of a run whose notes went back with the region in which it begins. Without a lock its count
+   may still be one from before. */
 static inline bool is_headless(uint32_t number)
 {
     const struct unit *unit = &arena.units[number];
-    return NOTE_NOW(unit->kind) == UNIT_RUN_BODY && NOTE_NOW((unit - NOTE_NOW(unit->count))->kind) == UNIT_NEW;
+    uint32_t count = NOTE_NOW(unit->count);
+    return NOTE_NOW(unit->kind) == UNIT_RUN_BODY && count < number
+           && NOTE_NOW(arena.units[number - count].kind) == UNIT_NEW;
 }
 
 /* Whether the free of this block is over. */

@@ -1,8 +1,8 @@
 /* What the copies of loops (loops/versions.cpp) ask for.
 
-   Called: by compiled code, in any thread, also in a signal handler. Lock: none: the shadow is only read, and a bad
-   access in the rest of a loop is noted as in callbacks.c. The names and numbers also by the plugin for Clang and by
-   the wrapper, which are other programs. */
+   Called: by compiled code, in any thread, also in a signal handler. Lock: none: the tests only read the shadow and
+   has_threads, and Clang is told that they touch nothing of the program's (versions.cpp). An access in the rest of a
+   loop is checked as in callbacks.c. The names and numbers also by the plugin for Clang, which is another program. */
 #ifndef ASANCOL_INTERFACE_LOOPS_H
 #define ASANCOL_INTERFACE_LOOPS_H
 

@@ -13,13 +13,13 @@
 #include "stacks/thread_notes.h"
 
 /* A stack is a word and then its frames, the innermost first. The word has its number in the lower bits, and over it
-   for which recording that was given, how many frames stand behind it, and how many there are. If there are more, the
+   for which list that was given, how many frames stand behind it, and how many there are. If there are more, the
    others are the outermost ones of a stack that has all of its own, and a last word says where in that they begin: a
    recursion makes many stacks that differ in few frames. */
-enum { RECORDING_SHIFT = 28, OWN_SHIFT = 52, COUNT_SHIFT = 58 };
+enum { LIST_SHIFT = 28, OWN_SHIFT = 52, COUNT_SHIFT = 58 };
 enum { OWN_MASK = (1 << (COUNT_SHIFT - OWN_SHIFT)) - 1 };
-#define NUMBER_MASK ((UINT32_C(1) << RECORDING_SHIFT) - 1)
-#define RECORDING_MASK ((UINT32_C(1) << (OWN_SHIFT - RECORDING_SHIFT)) - 1)
+#define NUMBER_MASK ((UINT32_C(1) << LIST_SHIFT) - 1)
+#define LIST_MASK ((UINT32_C(1) << (OWN_SHIFT - LIST_SHIFT)) - 1)
 _Static_assert(SIDE_STACK_WORDS <= NUMBER_MASK, "a number is a place beside the stream");
 _Static_assert((int)MAX_FRAMES <= (int)OWN_MASK, "there is room for both counts");
 /* A stack shares frames only if at most one in this many is its own. */
@@ -41,7 +41,6 @@ _Static_assert(IS_STACK >> THREAD_BITS >> THREAD_SHIFT != 0, "there is room");
 static struct {
     _Atomic uint32_t taken; /* words; the first is of no stack */
     _Atomic uint32_t count; /* stacks */
-    _Atomic uint32_t recording;
 } stacks = {.taken = 1};
 
 /* Relaxed: the place in `known` is released once the words of a stack are there. Who has its number from elsewhere may
@@ -235,32 +234,30 @@ unsigned call_site_frames(call_site of, uint64_t frames[MAX_FRAMES])
     return count;
 }
 
-/* What stands over the number in a stack's word, if that is one of this recording. */
-static uint64_t upper_part(uint64_t word)
+/* What stands over the number in a stack's word, if that is one of this list. */
+static uint64_t upper_part(uint64_t word, uint32_t list)
 {
-    uint64_t recording = atomic_load(&stacks.recording) & RECORDING_MASK;
-    return word >> OWN_SHIFT << OWN_SHIFT | recording << RECORDING_SHIFT;
+    return word >> OWN_SHIFT << OWN_SHIFT | (uint64_t)(list & LIST_MASK) << LIST_SHIFT;
 }
 
-uint32_t call_site_number(call_site of)
+static uint32_t number_in(uint64_t word, uint32_t list)
 {
-    uint64_t word = of & IS_STACK ? word_at(of & WORD_MASK) : 0;
-    return word >> RECORDING_SHIFT == upper_part(word) >> RECORDING_SHIFT ? (uint32_t)word & NUMBER_MASK : 0;
+    return word >> LIST_SHIFT == upper_part(word, list) >> LIST_SHIFT ? (uint32_t)word & NUMBER_MASK : 0;
 }
 
-uint32_t call_site_give_number(call_site of, uint32_t number)
+uint32_t call_site_number(call_site of, uint32_t list)
+{
+    return of & IS_STACK ? number_in(word_at(of & WORD_MASK), list) : 0;
+}
+
+uint32_t call_site_give_number(call_site of, uint32_t list, uint32_t number)
 {
     _Atomic uint64_t *word = &words[of & WORD_MASK];
     uint64_t seen = atomic_load(word);
     for (;;) {
-        if (call_site_number(of) != 0)
-            return call_site_number(of);
-        if (atomic_compare_exchange_strong(word, &seen, upper_part(seen) | number))
+        if (number_in(seen, list) != 0)
+            return number_in(seen, list);
+        if (atomic_compare_exchange_strong(word, &seen, upper_part(seen, list) | number))
             return number;
     }
-}
-
-void call_sites_forget_numbers(void)
-{
-    atomic_fetch_add(&stacks.recording, 1);
 }

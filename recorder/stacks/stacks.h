@@ -39,11 +39,10 @@ call_site call_site_of_any_thread(call_site of);
    process/halt_report.c) */
 unsigned call_site_frames(call_site of, uint64_t frames[MAX_FRAMES]);
 
-/* Each stack has room for one number, which a fork and the end of a recording take away. (stream/lists.c) */
-uint32_t call_site_number(call_site of);
-/* Gives it a number if it has none, and answers the one that it has. (stream/lists.c) */
-uint32_t call_site_give_number(call_site of, uint32_t number);
-/* Takes the numbers of all away. (stream/lists.c, with the stream's lock or before there is a stream) */
-void call_sites_forget_numbers(void);
+/* Its number in the list of this number, or 0: each stack has room for one, which the next list takes.
+   (stream/lists.c) */
+uint32_t call_site_number(call_site of, uint32_t list);
+/* Gives it a number in a list if it has none there, and answers the one that it has. (stream/lists.c) */
+uint32_t call_site_give_number(call_site of, uint32_t list, uint32_t number);
 
 #endif

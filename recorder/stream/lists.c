@@ -38,7 +38,6 @@ void list_begin(unsigned char *bytes, unsigned window)
     atomic_store(&list->taken, 0);
     atomic_store(&list->taken_words, 1);
     atomic_store(&list->number, ++begun);
-    call_sites_forget_numbers();
     atomic_store(&list->bytes, bytes);
     list_forget_backed(list);
     atomic_store(&newest, list);
@@ -112,7 +111,7 @@ uint32_t list_put_stack(struct list *list, call_site of)
 {
     uint64_t frames[MAX_FRAMES], *words;
     unsigned count = call_site_frames(of, frames);
-    uint32_t number = call_site_number(of);
+    uint32_t in = atomic_load(&list->number), number = call_site_number(of, in);
     if (count == 0 || number != 0)
         return number;
     if ((words = list_take_words(list, count + 1, &number)) == NULL)
@@ -120,5 +119,5 @@ uint32_t list_put_stack(struct list *list, call_site of)
     words[0] = count;
     memcpy(words + 1, frames, count * sizeof *frames);
     list_show_words(list, number + count + 1);
-    return atomic_load(&newest) == list ? call_site_give_number(of, number) : number;
+    return atomic_load(&newest) == list ? call_site_give_number(of, in, number) : number;
 }
