@@ -438,6 +438,21 @@ size_t heap_live_size(void *pointer)
     return size;
 }
 
+bool heap_say_allocated(const void *pointer, uintptr_t caller)
+{
+    call_site place = origin_is_noted() ? call_site_of(caller) : 0;
+    if (is_spare(pointer))
+        return true;
+    bool is_entered = heap_enter();
+    const struct block *block = block_from(pointer);
+    bool is_live = block != NULL && is_in_use(block);
+    if (is_live && place != 0)
+        SET_NOTE(arena.call_sites[block - arena.blocks].allocated, place);
+    if (is_entered)
+        heap_leave();
+    return is_live;
+}
+
 /* By realloc, which takes longer anyway. */
 static __attribute__((noinline)) void *allocate_new(size_t size, struct origin from)
 {

@@ -2,10 +2,10 @@
 
    Called: as each function says, in any thread, also in a handler; what stream/ calls goes by `above`
    (stream/state.h). Lock: heap_lock takes the allocator's, which is the gate's, with no thread in a shard
-   (blocks.h): then "the heap is locked". heap_ignore, heap_count, heap_trim, heap_paint, heap_live_size and
-   heap_thread_ends take it too, or the shard, unless this thread is in there; so do heap_ends_here and
-   heap_left_by_jump if a handler has left something. The others need none, if they do not say so, and it may be
-   held. */
+   (blocks.h): then "the heap is locked". heap_ignore, heap_count, heap_trim, heap_paint, heap_live_size,
+   heap_say_allocated and heap_thread_ends take it too, or the shard, unless this thread is in there; so do
+   heap_ends_here and heap_left_by_jump if a handler has left something. The others need none, if they do not say so,
+   and it may be held. */
 #ifndef ASANCOL_HEAP_H
 #define ASANCOL_HEAP_H
 
@@ -97,6 +97,10 @@ struct heap_numbers heap_count(void) OWN_NAME(heap_count);
 bool heap_trim(void) OWN_NAME(heap_trim);
 /* The size of a block that is live, or SIZE_MAX. (replaced.c, interface/) */
 size_t heap_live_size(void *pointer) OWN_NAME(heap_live_size);
+
+/* A live block begins here: it counts as allocated by this caller, and this thread, from now on. False: there is none.
+   (interface/, for the program) */
+bool heap_say_allocated(const void *pointer, uintptr_t caller) OWN_NAME(heap_say_allocated);
 
 /* What the program wants to be called after each malloc and before each free, without the lock. */
 struct heap_hooks {

@@ -4,11 +4,11 @@
 
    Called: by the program, in any thread, also in a signal handler; interface_start by start.c. Lock: none is taken
    here. The caller has none of the recorder's, except that a handler may have interrupted the allocator, and that a
-   callback for a report has the one of reports.c: so nothing here may wait for that. By the table of hooks.def sizes
-   and counts of blocks, ignored blocks, root regions and a search for leaks (after the loader's) take the allocator's,
-   and a record of poison or of an access that and the stream's. A wrong call (note_wrong_call) may take the stream's;
-   after that the program's callbacks for a report run, with the lock of reports.c. Before the recorder's start
-   (start.h) poison, an access or a wrong call begins it, which takes the loader's and the allocator's.
+   callback for a report has the one of reports.c: so nothing here may wait for that. By the table of hooks.def sizes,
+   counts and origins of blocks, ignored blocks, root regions and a search for leaks (after the loader's) take the
+   allocator's, and a record of poison or of an access that and the stream's. A wrong call (note_wrong_call) may take
+   the stream's; after that the program's callbacks for a report run, with the lock of reports.c. Before the recorder's
+   start (start.h) poison, an access or a wrong call begins it, which takes the loader's and the allocator's.
 
    Poison and unpoison are recorded, and questions about them are answered by the shadow. Reports are not there: they
    come from the collector. All are weak: a program has its own callbacks and options, and another sanitizer of the
@@ -279,8 +279,7 @@ INTERFACE void __asan_get_shadow_mapping(size_t *scale, size_t *offset)
 
 INTERFACE int __asan_update_allocation_context(void *address)
 {
-    (void)address;
-    return 0;
+    return ask_say_allocated(address, CALLER());
 }
 
 INTERFACE void *__asan_get_current_fake_stack(void)

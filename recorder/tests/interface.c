@@ -202,7 +202,8 @@ static void places(char *block)
     WANT(__asan_get_alloc_stack(block, frames, 4, &thread) <= 4);
     WANT(__asan_get_free_stack(block, frames, 4, &thread) == 0);
     __asan_get_shadow_mapping(&scale, &shadow);
-    __asan_update_allocation_context(block);
+    WANT(__asan_update_allocation_context(block) == (int)__sanitizer_get_ownership(block));
+    WANT(__asan_update_allocation_context(block + 1) == 0);
     __sanitizer_symbolize_pc(__builtin_return_address(0), "%f", text, sizeof text);
     __sanitizer_symbolize_global(block, "%g", text, sizeof text);
     WANT(memchr(text, 0, sizeof text) != NULL);

@@ -97,6 +97,48 @@ int main(void)
     expect(side.lines(side.faults()[0].allocated[:1])[0][0], "main", "where they were allocated")
 
 
+# A pool hands out a block again, in another thread.
+ANEW = """
+#include <pthread.h>
+#include <stdlib.h>
+int __asan_update_allocation_context(void *);
+static void *hand_out(void *block) {
+    return __asan_update_allocation_context(block) ? block : NULL; }
+int main(int count, char **argv)
+{
+    char *volatile block = malloc(atol(argv[1]));
+    pthread_t thread;
+    void *handed = NULL;
+    pthread_create(&thread, NULL, hand_out, block);
+    pthread_join(thread, &handed);
+    block[atol(argv[1])] = 1;
+    free(handed);
+    block = NULL;
+    return handed == NULL;
+}
+"""
+
+
+def check_anew(suite, folder, compiler):
+    """The block of a report was allocated where the program has said so last; also in a library."""
+    write(folder, anew_c=ANEW)
+    compiler.c(folder, ["anew.c"], f"{folder}/anew", "-w", "-pthread")
+    write(folder, main_c="int handed(int, char **); int main(int n, char **w) { return handed(n, w); }")
+    compiler.c(folder, ["anew.c"], f"{folder}/libanew.so", "-w", "-pthread", "-shared", "-fPIC", "-Dmain=handed")
+    compiler.c(folder, ["main.c", "./libanew.so"], f"{folder}/main", "-w", f"-Wl,-rpath,{folder}")
+    for program in ("anew", "main"):
+        expect(run([f"./{program}", "10"], folder).returncode, 0, "unrecorded")
+        for full in ("0", "1"):
+            for size in ("10", "100000"):
+                settings = {"ASANCOL_TRACE": "t.trace", "ASANCOL_WHERE": "1", "ASANCOL_FULL": full}
+                expect(run([f"./{program}", size], folder, **settings).returncode, 0, program)
+                side = side_of(f"{folder}/t.trace")
+                (fault,) = side.faults()
+                expect((side.lines(fault.allocated[:1])[0], fault.threads[1]), (("hand_out", "anew.c:6"), 1),
+                       f"{program} {full} {size}")
+                os.unlink(f"{folder}/t.trace")
+
+
 # Blocks that are freed before one of a size is allocated, the size, and where a load is from its start.
 FAR = [(0, 10, 100), (0, 10, 5000), (0, 10, 60000), (0, 10, 150000), (0, 1000, 9999), (0, 10, -3000), (0, 10, -60000),
        (0, 100000, 105000), (0, 100000, -5000), (0, 1 << 20, -4000), (0, 1 << 20, 1 << 20 | 5000), (3, 10, 150000),
@@ -195,5 +237,6 @@ def tests(suite, compiler):
     for level in ("-O0", "-O2"):
         suite.test(f"{compiler} where {level}", check_where, compiler, level)
     suite.test(f"{compiler} where, many", check_many_places, compiler)
+    suite.test(f"{compiler} where, said anew", check_anew, compiler)
     suite.test(f"{compiler} where, far from a block", check_far, compiler)
     suite.test(f"{compiler} where, by many ways", check_paths, compiler)

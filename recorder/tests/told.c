@@ -91,6 +91,11 @@ static __attribute__((noinline)) void drop(char *it)
     free(it);
 }
 
+static __attribute__((noinline)) void say_anew(const char *what, char *it)
+{
+    printf("%s: allocated anew: %d\n", what, __asan_update_allocation_context(it));
+}
+
 static void addresses(void)
 {
     char local[20], path[256];
@@ -110,7 +115,14 @@ static void addresses(void)
     locate("the shadow of the shadow", (char *)0x7fff8000 + 0x7fff8000 / 8, NULL);
     is_in("malloc", (void *)make, frames, __asan_get_alloc_stack(made, frames, 8, &thread));
     printf("free: %zu, thread %d\n", __asan_get_free_stack(made, frames, 8, &thread), thread);
+    say_anew("inside a block", made + 1);
+    is_in("malloc", (void *)make, frames, __asan_get_alloc_stack(made, frames, 8, &thread));
+    say_anew("a block", made);
+    is_in("malloc", (void *)make, frames, __asan_get_alloc_stack(made, frames, 8, &thread));
+    is_in("anew", (void *)say_anew, frames, __asan_get_alloc_stack(made, frames, 8, &thread));
     drop(made);
+    say_anew("a freed block", made);
+    say_anew("no block", local);
     locate("a freed block", made + 3, made);
     is_in("malloc", (void *)make, frames, __asan_get_alloc_stack(made, frames, 8, &thread));
     is_in("free", (void *)drop, frames, __asan_get_free_stack(made, frames, 8, &thread));
