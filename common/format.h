@@ -291,7 +291,8 @@ struct side_fault {
         unsigned char shadow[SIDE_SHADOW];
         struct side_found found; /* of a finding */
     };
-    char call[SIDE_CALL];      /* the function of the C library that has made the access; empty: the program itself */
+    char call[SIDE_CALL];      /* the function of the C library that has made the access; or "sys_" and a call of the
+                                  system; empty: the program itself */
     char name[SIDE_NAME];      /* of the variable: "name", or "name FILE:LINE" of a global; of a block, or of a finding,
                                   what has allocated it, if that is known */
 };

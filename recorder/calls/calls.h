@@ -1,9 +1,10 @@
 /* The looks at the shadow that the wrappers of library functions make, and what records the bad pieces.
 
-   Called: by the checks of the program's calls (rows of calls.def, by the words of rows.h and words.h; exits.c), and
-   for these by formats.c, pieces.c and there.c, in any thread, also in a signal handler and in a child of vfork. Lock:
-   none of the recorder's is held or taken here, except as the record of a bad piece does (hooks.h). Nothing is
-   allocated, and of the C library only the function is called that the program has called, and what `LIBRARY` has. */
+   Called: by the checks of the program's calls (rows of calls.def and system_hooks.def, by the words of rows.h and
+   words.h; exits.c), and for these by formats.c, pieces.c and there.c, in any thread, also in a signal handler and in a
+   child of vfork. Lock: none of the recorder's is held or taken here, except as the record of a bad piece does
+   (hooks.h). Nothing is allocated, and of the C library only the function is called that the program has called, and
+   what `LIBRARY` has. */
 #ifndef ASANCOL_CALLS_H
 #define ASANCOL_CALLS_H
 

@@ -2,8 +2,9 @@
    itself (group.c) and uses some of them. A call that is clean leaves no record, and errno is as the function leaves
    it.
 
-   Called: as rows.h says, each helper by the checks of the rows that have its word: in the same thread, and as a check
-   in a handler or not. No lock; but byte_of and letter_of take that of a FILE, in the C library. */
+   Called: as rows.h says, each helper by the checks of the rows that have its word, or by system_hooks.c: in the same
+   thread, and as a check in a handler or not. No lock; but byte_of and letter_of take that of a FILE, in the C
+   library. */
 #ifndef ASANCOL_WORDS_H
 #define ASANCOL_WORDS_H
 

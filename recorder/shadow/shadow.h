@@ -210,6 +210,6 @@ void shadow_poison(uint64_t address, uint64_t size, unsigned char code) OWN_NAME
 /* By interface/variables.c as a scope begins, and by stream/record.c after a record; heap/paint.h paints blocks. */
 void shadow_unpoison(uint64_t address, uint64_t size) OWN_NAME(shadow_unpoison);
 /* The first byte of a region that is not addressable, or its end. */
-uint64_t shadow_first_bad(uint64_t address, uint64_t size);
+uint64_t shadow_first_bad(uint64_t address, uint64_t size) OWN_NAME(shadow_first_bad);
 
 #endif

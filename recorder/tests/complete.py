@@ -380,9 +380,10 @@ def check_asked_for(suite: Suite, folder: str, compiler: Compiler) -> None:
         others = [f"__interceptor_{name}" for name in re.findall(r"WRAP\((\w+)\)", file.read())]
     allocator = [f"__interceptor_{name}" for name in ("malloc", "calloc", "realloc", "memalign", "free")]
     for names, flags in ((hooks + others + allocator, ()), (hooks + allocator, ["-static"])):
-        text = "".join(f"void {name}(void);\n" for name in names)
-        table = ", ".join(sorted(set(names)))
-        calls = "".join(f"    {name}();\n" for name in hooks)
+        seven = ", ".join(["long"] * 7)
+        text = "".join(f"void {name}({seven if name in hooks else 'void'});\n" for name in names)
+        table = ", ".join(f"(void (*)(void)){it}" for it in sorted(set(names)))
+        calls = "".join(f"    {name}(0, 0, 0, 0, 0, 0, 0);\n" for name in hooks)
         text += f"void (*const all[])(void) = {{{table}}};\n"
         text += "int main(void)\n{\n    for (unsigned i = 0; i < sizeof all / sizeof *all; i++)\n"
         text += f"        if (all[i] == 0)\n            return 1;\n{calls}    return 0;\n}}\n"

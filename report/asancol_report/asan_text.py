@@ -21,6 +21,8 @@ RULE = "=" * 65
 ALLOCATING = {"operator new": "operator new(unsigned long)", "operator new []": "operator new[](unsigned long)"}
 FREEING = {"malloc": "free", "operator new": "operator delete(void*)", "operator new []": "operator delete[](void*)"}
 OPERATORS = {"operator delete": "operator delete(void*)", "operator delete []": "operator delete[](void*)"}
+# How the call of a hook of a system call begins.
+HOOK = "sys_"
 # The text about an access, and about a signal's: a jump reads instructions.
 ACCESSES = {"load": "READ", "store": "WRITE"}
 SIGNALLED = {**ACCESSES, "jump": "READ"}
@@ -255,9 +257,12 @@ class AsanText(Text):
 
 
 def library_function(finding: Finding) -> str:
-    """Returns what the innermost frame is called: the function of the C library, if it was one."""
+    """Returns what the innermost frame is called: the function of the C library or the hook, if it was one."""
     if finding.class_name in ATTEMPTS and finding.call in ("", "free"):
         return FREEING.get(finding.allocator, "free")
+    if finding.call.startswith(HOOK):
+        moment = "post" if finding.access == "store" else "pre"
+        return f"__sanitizer_syscall_{moment}_impl_{finding.call[len(HOOK):]}"
     return OPERATORS.get(finding.call, finding.call)
 
 

@@ -162,7 +162,7 @@ class Finding:
         self.raw_class = class_name  # as asancol has it
         self.access = access
         self.size = size
-        self.call = ""  # the function of the C library that has made the access
+        self.call = ""  # as of a fault
         self.address = address
         self.bad = bad  # None, if the event has no bad byte but is bad as a whole
         self.shadow = ""

@@ -127,7 +127,7 @@ class Fault(NamedTuple):
     frame: int  # where the frame of a variable begins
     function: int  # an address in its function
     variables: str  # how the compiler describes that frame; of a global that was defined twice, the other definition
-    call: str  # the function of the C library that has made the access
+    call: str  # the function of the C library that has made the access, or "sys_" and a system call
     # Of a finding of the recorder:
     kind: int = FINDING_NONE
     count: int = 0  # type: ignore[assignment]  # how often it came up; of a leak how many blocks are lost

@@ -121,6 +121,17 @@ def calls_have_names_and_sizes(folder: str) -> None:
 
 
 @report_test
+def a_hook_of_a_system_call_has_the_name_of_asan(folder: str) -> None:
+    program = build(folder)
+    for access, moment in (("load", "pre"), ("store", "post")):
+        one = fault(program.places["use"], 0x2000, 8, call="sys_read", access=(0x2000, 13), **rows("fa"))
+        write_trace(folder, "a.trace", line(HEAP, words=f"{access} 8") + END, of_program(program, [one], [1]))
+        expect_in(report(folder, "--trace", "a.trace").out, f"{access} of 13 bytes in sys_read")
+        ran = report(folder, "--trace", "a.trace", "--format=asan")
+        expect_in(ran.out, f" in __sanitizer_syscall_{moment}_impl_read (")
+
+
+@report_test
 def a_call_that_reads_and_writes_is_said_once(folder: str) -> None:
     program = build(folder)
     one = fault(program.places["use"], 0x2000, 8, call="memmove", access=(0x2000, (1 << 64) - 1), **rows("fa"))
