@@ -58,11 +58,17 @@ void shadow_note_poison(uint64_t address, uint64_t size)
 
 #endif
 
+/* Where memory ends that begins at an address. The shadow of the shadow is not there. */
+static uint64_t end_from(uint64_t address)
+{
+    return address < SHADOW_START ? SHADOW_START : MEMORY_END;
+}
+
 bool shadow_is_clean_long(uint64_t address, uint64_t size)
 {
     if (size == 0)
         return true;
-    if (address >= MEMORY_END || size > MEMORY_END - address || is_in_hole(address))
+    if (address >= MEMORY_END || size > end_from(address) - address || is_in_hole(address))
         return false;
     const unsigned char *at = (const unsigned char *)shadow_of(address);
     const unsigned char *last = (const unsigned char *)shadow_of(address + size - 1);
@@ -121,8 +127,8 @@ static bool clip(uint64_t address, uint64_t *size)
 {
     if (address >= MEMORY_END || is_in_hole(address))
         return false;
-    if (*size > MEMORY_END - address)
-        *size = MEMORY_END - address;
+    if (*size > end_from(address) - address)
+        *size = end_from(address) - address;
     return *size != 0;
 }
 

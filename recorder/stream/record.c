@@ -79,7 +79,7 @@ static void record_bad_pieces(struct access *access, uint64_t address, uint64_t 
     size -= skipped;
     for (unsigned looks = 0; size > 0 && looks < MAX_LOOKS; looks++, address += width, size -= width) {
         width = piece_at(address, size);
-        if (address > MEMORY_END - width)
+        if (address > MEMORY_END - width || is_in_shadow(address))
             return;
         if (!shadow_is_bad(address, width))
             continue;

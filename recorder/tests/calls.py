@@ -1218,6 +1218,36 @@ def check_mathematics(suite: Suite, folder: str, compiler: Compiler) -> None:
     expect(b"libm.so" in needed, False, "that the library comes in")
 
 
+# Sizes that lead from low addresses into the shadow, of calls that the system refuses.
+INTO_SHADOW = """
+#include <errno.h>
+#include <stdio.h>
+#include <sys/socket.h>
+#include <sys/xattr.h>
+#include <unistd.h>
+static void tell(long result) { printf("%ld %d\\n", result, errno); }
+int main(void)
+{
+    char *volatile null = NULL;
+    tell(write(1, null, (size_t)-1));
+    tell(send(-1, null + 4096, (size_t)-1, 0));
+    tell(setxattr("/", "user.a", null, (size_t)-1, 0));
+    tell(setxattr("/", "user.a", null, (size_t)1 << 40, 0));
+    return 0;
+}
+"""
+
+
+def check_into_shadow(suite: Suite, folder: str, compiler: Compiler) -> None:
+    """A call that the system refuses is refused, whatever size it has."""
+    write(folder, into_c=INTO_SHADOW)
+    compiler.c(folder, ["into.c"], f"{folder}/plain", "-w", native=True)
+    compiler.c(folder, ["into.c"], f"{folder}/into", "-w")
+    ran = run(["./into"], folder, ASANCOL_TRACE="t.trace")
+    expect((ran.returncode, ran.stdout), (0, run(["./plain"], folder).stdout), "what the program is told")
+    expect(reports(suite.asancol, f"{folder}/t.trace")[1], [], "reports")
+
+
 def check_page(suite: Suite, folder: str) -> None:
     """The page can be made. It has a line for each row, in their order, with all names of the row and its
     parameters, and lists the reads, writes and allocations of each."""
@@ -1250,4 +1280,5 @@ def tests(suite: Suite, compiler: Compiler) -> None:
     suite.test(f"{compiler} calls, own names", check_own_names, compiler)
     suite.test(f"{compiler} calls, shared objects", check_objects, compiler)
     suite.test(f"{compiler} calls, mathematics", check_mathematics, compiler)
+    suite.test(f"{compiler} calls, sizes into the shadow", check_into_shadow, compiler)
     suite.test(f"{compiler} calls, the page", check_page)

@@ -384,7 +384,9 @@ def check_hooks(suite: Suite, folder: str, compiler: Compiler, way: str) -> None
             continue
         expect([tried[it] for it in tried if it not in lines], [], "what is not found")
         expect(sorted(lines - set(tried)), [], "other lines")
-        named_so = {(side.lines(it.place[:1])[0][1], it.call) for it in side.faults()}
+        faults = side.faults()
+        places = side.lines([it.place[0] for it in faults])
+        named_so = {(line, fault.call) for (_, line), fault in zip(places, faults)}
         wanted = {(line, f"sys_{tried[line].split('(')[0]}") for line in tried}
         expect(named_so, wanted, "names of calls")
 
