@@ -1,6 +1,7 @@
 """Tests of the hooks of system calls: each row of system_hooks.def used well and with a block that is one byte too
 short."""
 
+import errno
 import os
 import re
 from typing import Dict, List, NamedTuple, Sequence, Tuple, Union
@@ -107,7 +108,7 @@ USES: Dict[str, Sequence[Use]] = {
     **named("pselect6", (8, "9, p, 0, 0, 0, 0", 0), (8, "9, 0, p, 0, 0, 0", 0), (8, "9, 0, 0, p, 0, 0", 0),
             (16, "0, 0, 0, 0, p, 0", "pselect6"), (16, "0, 0, 0, 0, room, p", "pselect6"),
             (8, "0, 0, 0, 0, room, piece(p, 8)", "pselect6")),
-    **named("epoll_ctl", ("sizeof(struct epoll_event)", "-1, EPOLL_CTL_ADD, 0, p", -9)),
+    **named("epoll_ctl", ("sizeof(struct epoll_event)", "-1, EPOLL_CTL_ADD, 0, p", "epoll_ctl")),
     **named("epoll_wait", ("sizeof(struct epoll_event)", "-1, p, 9, 0", 1)),
     **named("epoll_pwait", ("sizeof(struct epoll_event)", "-1, p, 9, 0, 0, 8", 1), (8, "-1, room, 9, 0, p, 8", 0)),
     **named("epoll_pwait2", ("sizeof(struct epoll_event)", "-1, p, 9, 0, 0, 8", 1), (8, "-1, room, 9, 0, p, 8", 0),
@@ -129,7 +130,7 @@ USES: Dict[str, Sequence[Use]] = {
     **named("send", (9, "-1, p, 9, 0", -9)),
     **named("sendto", (9, "pipe_to(room), p, 9, 0, 0, 0", -88), (16, "-1, 0, 0, 0, p, 16", -9)),
     **named("recv", (9, "-1, p, 9, 0", 9), (9, "-1, p, 9, 0", 99)),
-    **named("recvfrom", (9, "-1, p, 9, 0, 0, 0", "9"), (4, "-1, 0, 0, 0, room, p", -9)),
+    **named("recvfrom", (9, "-1, p, 9, 0, 0, 0", 9), (4, "-1, 0, 0, 0, room, p", -9)),
     **named("sendmsg", (56, "-1, p, 0", -9), (9, "-1, message(piece(p, 9), 1), 0", -9),
             (16, "-1, message(p, 1), 0", -9)),
     **named("recvmsg", (56, "-1, p, 0", -9), (9, "-1, message(piece(p, 9), 1), 0", 9),
@@ -151,12 +152,12 @@ USES: Dict[str, Sequence[Use]] = {
     **named("semctl", ("sizeof(struct semid_ds)", "-1, 0, IPC_SET, p", -22),
             ("sizeof(struct semid_ds)", "0, 0, IPC_STAT, p", 0)),
     **named("semop", (6, "-1, p, 1", "semop")),
-    **named("semtimedop", (6, "-1, p, 1, 0", -22), (16, "-1, room, 1, p", -22)),
-    **named("mq_open", ("name", "p, 0, 0, 0", -2), (64, '"no", O_CREAT, 0, p', -2)),
-    **named("mq_timedsend", (9, "-1, p, 9, 0, 0", -9), (16, "-1, room, 9, 0, p", -9)),
+    **named("semtimedop", (6, "-1, p, 1, 0", -22), (16, "-1, room, 1, p", "semtimedop")),
+    **named("mq_open", ("name", "p, 0, 0, 0", -2), (64, '"no", O_CREAT, 0, p', "mq_open")),
+    **named("mq_timedsend", (9, "-1, p, 9, 0, 0", -9), (16, "-1, room, 9, 0, p", "mq_timedsend")),
     **named("mq_timedreceive", (9, "-1, p, 99, 0, 0", 9), (4, "-1, room, 9, p, 0", 9), (16, "-1, room, 9, 0, p", -9)),
-    **named("mq_notify", (64, "-1, p", -9)),
-    **named("mq_getsetattr", (64, "-1, p, 0", -9), (64, "-1, 0, p", 0)),
+    **named("mq_notify", (64, "-1, p", "mq_notify")),
+    **named("mq_getsetattr", (64, "-1, p, 0", "mq_getsetattr"), (64, "-1, 0, p", 0)),
     # Time.
     **named("time", (8, "p", 0)),
     **named("stime", (8, "p", -1)),
@@ -182,7 +183,7 @@ USES: Dict[str, Sequence[Use]] = {
             (16, "room, 0, p, 8", "rt_sigtimedwait")),
     **named("rt_sigqueueinfo", (128, "0, 0, p", -1)),
     **named("rt_tgsigqueueinfo", (128, "0, 0, 0, p", -1)),
-    **named("sigaltstack", ("sizeof(stack_t)", "p, 0", -12), ("sizeof(stack_t)", "0, p", "sigaltstack")),
+    **named("sigaltstack", ("sizeof(stack_t)", "p, 0", "sigaltstack"), ("sizeof(stack_t)", "0, p", "sigaltstack")),
     **named("sigpending", (8, "p", 0)),
     **named("sigprocmask", (8, "0, p, 0", 0), (8, "0, 0, p", 0)),
     # Processes.
@@ -206,7 +207,7 @@ USES: Dict[str, Sequence[Use]] = {
     **named("sched_setaffinity", (8, "-1, 8, p", -3)),
     **named("sched_getaffinity", (8, "0, 4096, p", 8)),
     **named("getrlimit old_getrlimit", (16, "0, p", 0)),
-    **named("setrlimit", (16, "99, p", -22)),
+    **named("setrlimit", (16, "99, p", "setrlimit")),
     **named("prlimit64", (16, "0, 99, p, 0", "prlimit64"), (16, "0, 0, 0, p", "prlimit64")),
     **named("getrusage", ("sizeof(struct rusage)", "0, p", "getrusage")),
     **named("ptrace", (8, "PTRACE_PEEKDATA, -1, 0, p", 0), (128, "PTRACE_SETSIGINFO, -1, 0, p", -3),
@@ -223,13 +224,14 @@ USES: Dict[str, Sequence[Use]] = {
     **named("syslog", (9, "3, p, 99", 9)),
     **named("sysfs", ("ext4", "1, p", -22), ("ext4", "2, 0, p", 0)),
     **named("kexec_load", (32, "0, 1, p, 0", -1)),
-    **named("perf_event_open", (64, "p, 0, 0, 0, 0", -13), (72, "sized(p, 72ul << 32), 0, 0, 0, 0", -13)),
+    **named("perf_event_open", (64, "p, 0, 0, 0, 0", "perf_event_open"),
+            (72, "sized(p, 72ul << 32), 0, 0, 0, 0", "perf_event_open")),
     **named("pciconfig_read", (4, "0, 0, 0, 4, p", 0)),
     **named("pciconfig_write", (4, "0, 0, 0, 4, p", 0)),
     **named("spu_run", (4, "-1, p, 0", -9)),
     # Memory.
     **named("mincore", (2, "pages, 8192, p", "mincore")),
-    **named("mbind", (8, "0, 0, 0, p, 9, 0", -22)),
+    **named("mbind", (8, "0, 0, 0, p, 9, 0", "mbind")),
     **named("set_mempolicy", (8, "9, p, 65", -22)),
     **named("migrate_pages", (8, "-1, 9, p, room", -3), (8, "-1, 9, room, p", -3)),
     **named("get_mempolicy", (4, "p, 0, 0, 0, 0", 0), (8, "0, p, 65, 0, 0", 0)),
@@ -301,23 +303,29 @@ static long made(long result) { return result < 0 ? -errno : result; }
 """
 
 MAIN = """
-struct use { void (*use)(char *); const char *text; size_t size; };
+struct use { long (*use)(char *); const char *text; size_t size; };
 static const struct use uses[] = {
 %s
 };
 int main(int count, char **argv)
 {
     size_t less = atol(argv[1]);
+    char *edge = (char *)mmap(NULL, 8192, PROT_READ | PROT_WRITE, MAP_PRIVATE | MAP_ANONYMOUS, -1, 0) + 4096;
+    mprotect(edge, 4096, PROT_NONE);
     zeros = open("/dev/zero", O_RDONLY);
     null = open("/dev/null", O_WRONLY);
     pages = mmap(NULL, 8192, PROT_READ, MAP_PRIVATE | MAP_ANONYMOUS, -1, 0);
     for (size_t i = 0; i < sizeof uses / sizeof *uses; i++) {
-        char *p = calloc(1, uses[i].size - less);
+        size_t size = uses[i].size - less;
+        char *p = count > 2 ? memset(edge - size, 0, size) : calloc(1, size);
         memset(room, 0, sizeof room);
         if (uses[i].text != NULL)
-            memcpy(p, uses[i].text, uses[i].size - less);
-        uses[i].use(p);
-        free(p);
+            memcpy(p, uses[i].text, size);
+        long result = uses[i].use(p);
+        if (count > 2)
+            printf("%%ld\\n", result);
+        else
+            free(p);
     }
     return 0;
 }
@@ -336,17 +344,20 @@ def arguments_of(text: str) -> List[str]:
     return [f"A({it.strip()})" for it in parts]
 
 
-def source() -> Tuple[str, Dict[str, str]]:
-    """A program that tries each use, and the hooks of each of its lines."""
+def source(are_made: bool = False) -> Tuple[str, Dict[str, str]]:
+    """A program that tries each use, or those whose call is made; and what each of its lines is."""
     lines, entries, tried = HEAD.strip().splitlines(), [], {}
     for row in table():
         hooks = [f"__sanitizer_syscall_{moment}_impl_{row.name}" for moment in ("pre", "post")]
         lines.append(f"void {hooks[0]}(), {hooks[1]}();")
         for held, given, result in USES.get(row.name, ()):
+            is_made = isinstance(result, str)
+            if are_made and not is_made:
+                continue
             number, arguments = len(lines) + 1, ", ".join(arguments_of(given))
-            made = f"MADE(SYS_{result}, {arguments})" if isinstance(result, str) and not result.isdigit() else result
-            lines.append(f"static void use_{number}(char *p) {{ {hooks[0]}({arguments}); "
-                         f"{hooks[1]}(A({made}), {arguments}); }}")
+            made = f"MADE(SYS_{result}, {arguments})" if is_made else result
+            lines.append(f"static long use_{number}(char *p) {{ {hooks[0]}({arguments}); "
+                         f"long result = A({made}); {hooks[1]}(result, {arguments}); return result; }}")
             is_text = isinstance(held, str) and not held.startswith("sizeof")
             block = f'"{held}", sizeof "{held}"' if is_text else f"NULL, {held}"
             entries.append(f"    {{use_{number}, {block}}},")
@@ -391,6 +402,25 @@ def check_hooks(suite: Suite, folder: str, compiler: Compiler, way: str) -> None
         expect(named_so, wanted, "names of calls")
 
 
+# Calls that take a block which is too short: they answer how much of it they have read or written, or look at no more
+# with these arguments.
+TAKEN = ("capget(p, 0)", "getrandom", "process_vm", "pread64", "pwrite64", "read(", "write(")
+
+
+def check_sizes(suite: Suite, folder: str, compiler: Compiler) -> None:
+    """The system takes a block of that size that ends where memory does, and one byte less is EFAULT."""
+    text, tried = source(are_made=True)
+    write(folder, hooks_c=text)
+    compiler.c(folder, ["hooks.c"], f"{folder}/hooks", "-w")
+    whole, less = (run(["./hooks", it, "edge"], folder).stdout.decode().split() for it in ("0", "1"))
+    expect((len(whole), len(less)), (len(tried), len(tried)), "results")
+    said = list(zip(tried.values(), whole, less))
+    fault = str(-errno.EFAULT)
+    expect([it for it in said if it[1] == fault], [], "refused")
+    taken = [it for it in said if it[2] != fault and int(it[1]) >= 0 and not it[0].startswith(TAKEN)]
+    expect(taken, [], "taken")
+
+
 def check_all_tried(suite: Suite, folder: str) -> None:
     checked = {row.name for row in table() if row.word != "NONE"}
     expect(sorted(checked ^ set(USES)), [], "hooks without a use, and uses without a hook")
@@ -399,6 +429,7 @@ def check_all_tried(suite: Suite, folder: str) -> None:
 def tests(suite: Suite, compiler: Compiler) -> None:
     for way in ("", "-static", "-shared"):
         suite.test(f"{compiler} hooks of system calls {way}".rstrip(), check_hooks, compiler, way)
+    suite.test(f"{compiler} hooks of system calls: sizes of the system", check_sizes, compiler)
 
 
 def tests_of_all(suite: Suite) -> None:
