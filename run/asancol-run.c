@@ -154,9 +154,10 @@ static void say_summary(const struct sum *sum, bool is_incomplete, bool lists_un
 /* The same line as that of `awaited_text` of asancol-report. */
 static void say_awaited(size_t count)
 {
-    bool is_one = count == 1;
-    say("asancol: %zu process%s ended by %s waited for; --crashes shows %s", count, plural(count, "es"),
-        is_one ? "a signal that its parent" : "signals that their parents", is_one ? "it" : "them");
+    if (count == 1)
+        say("asancol: 1 process whose parent waited for it was ended by a signal; --crashes shows it");
+    else
+        say("asancol: %zu processes whose parents waited for them were ended by signals; --crashes shows them", count);
 }
 
 /* What holds of the run, and not of one process. */

@@ -296,8 +296,9 @@ def seen_text(results: Results, finding: Finding) -> str:
 def awaited_text(count: int) -> str:
     """Returns the line about crashes that do not count, since parents have waited for them. asancol-run says the same
     of one run (`say_awaited`)."""
-    how, whom = ("a signal that its parent", "it") if count == 1 else ("signals that their parents", "them")
-    return f"{plural(count, 'process')} ended by {how} waited for; --crashes shows {whom}"
+    if count == 1:
+        return "1 process whose parent waited for it was ended by a signal; --crashes shows it"
+    return f"{count} processes whose parents waited for them were ended by signals; --crashes shows them"
 
 
 def totals_line(results: Results) -> str:

@@ -165,7 +165,7 @@ def check_death_test(suite: Suite, folder: str) -> None:
     write_text(f"{folder}/d.c", DEATH_TEST)
     call([f"{TOP}/recorder/asancol-cc", "-g", "-w", "d.c", "-o", "d"], cwd=folder, check=True)
     halts = {"ASAN_OPTIONS": "halt_on_error=1", "ASANCOL_REPORT": REPORT}
-    line = "asancol: 1 process ended by a signal that its parent waited for; --crashes shows it\n"
+    line = "asancol: 1 process whose parent waited for it was ended by a signal; --crashes shows it\n"
     result = f"{folder}/r"
     ran = suite.run("--json", result, "--", f"{folder}/d", **halts)
     expect_ran(ran, 0, "asancol: no reports; 2 processes, ", line, absent=[PAST, "SUMMARY: asancol"])
