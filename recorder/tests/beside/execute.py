@@ -43,7 +43,7 @@ NOT_BUILT = "does not build"
 
 # Options of AddressSanitizer with which its first report stays the same, beside those that asancol takes and those on
 # which no report depends, by the table of its page.
-OTHERS = {"coverage", "coverage_direct", "redzone", "report_globals=2"}
+OTHERS = {"coverage", "coverage_direct", "handle_segv=2", "redzone", "report_globals=2"}
 SPELLED = {"0": ("0", "false"), "1": ("1", "true")}
 
 
