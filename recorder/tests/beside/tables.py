@@ -42,6 +42,9 @@ OUTSIDE = [
     Row("units", "*_SignalTest by *", "options of the runtime"),
 ]
 
+# How many tests of a suite may be left out. More are a failure: they would not be compared any more.
+MOST_LEFT_OUT = {"compiler-rt": 36, "gcc": 99, "units": 4}
+
 PIECES = "AddressSanitizer names the class by the first byte, which is good; here it is that of the bad byte"
 
 # Tests with executions that are not the same.
