@@ -43,7 +43,7 @@ OUTSIDE = [
 ]
 
 # How many tests of a suite may be left out. More are a failure: they would not be compared any more.
-MOST_LEFT_OUT = {"compiler-rt": 36, "gcc": 99, "units": 4}
+MOST_LEFT_OUT = {"compiler-rt": 36, "gcc": 2, "units": 4}
 
 PIECES = "AddressSanitizer names the class by the first byte, which is good; here it is that of the bad byte"
 
