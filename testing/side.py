@@ -120,11 +120,11 @@ def fault(place: int = 0, block: int = 0, size: int = 0, allocated: int = 0, fre
 
 def finding(kind: int, place: int = 0, block: int = 0, size: int = 0, allocated: int = 0, call: str = "",
             name: str = "", given: Tuple[int, int] = (0, 0), count: int = 1, after: int = 0, other: int = 0,
-            freed: int = 0) -> bytes:
+            freed: int = 0, stack: int = 0) -> bytes:
     """Returns a finding of the recorder. `given` is what the call was given: the start of a range, and a size."""
     found = layout.FOUND.pack(count, after, other)
-    return layout.FAULT.pack(0, place, block, size, allocated, freed, *[0] * 8, *given, *[0] * 4, kind, found,
-                             call.encode(), name.encode())
+    return layout.FAULT.pack(0, place, block, size, allocated, freed, 0, 0, stack, *[0] * 5, *given, *[0] * 4, kind,
+                             found, call.encode(), name.encode())
 
 
 def thread(number: int, system_number: int, name: str = "", created: int = 0, stack: int = 0,

@@ -146,7 +146,7 @@ class Place(NamedTuple):
     line: int
     column: int
     class_name: str
-    near: Tuple[str, ...]  # the variable, or where the block was allocated
+    near: Tuple[str, ...]  # the variable, or where the block was allocated; of a leak all calls that allocated it
 
 
 class Finding:
@@ -238,6 +238,8 @@ class Finding:
 
     @property
     def near(self) -> Tuple[str, ...]:
+        if self.is_leak:
+            return calls_to_leak(self.stack)
         block = self.block
         if block is None:
             return ()
@@ -344,6 +346,13 @@ def near_of(kind: str, name: str, distance: int, size: int, allocated: Tuple[str
     is_near = -REDZONE <= distance < size + REDZONE
     function, file, line = allocated
     return (function, os.path.basename(file), str(line)) if is_near else ()
+
+
+def calls_to_leak(stack: Stack) -> Tuple[str, ...]:
+    """Returns what tells apart two leaks at one place: all calls, since many callers may share a function that
+    allocates for them, and a suppression may name one of them."""
+    return tuple(f"{it.function}@{os.path.basename(it.file)}:{it.line}" if it.function
+                 else f"{os.path.basename(it.module)}+{it.offset:x}" for it in stack)
 
 
 @functools.lru_cache(maxsize=1 << 12)

@@ -7,10 +7,11 @@ import json
 import sys
 from typing import Any, Callable, Dict, Iterable, Iterator, List, NamedTuple, Optional, TextIO, Tuple, Union
 
+from .class_names import LEAK
 from .crashes import Crash
 from .errors import Broken, reason
-from .findings import (Block, DYNAMIC, Finding, first_own, Frame, GLOBAL, HEAP, near_of, Place, Rows, STACK, Stack,
-                       Tally, Thread, Threads, UNKNOWN_THREAD)
+from .findings import (Block, calls_to_leak, DYNAMIC, Finding, first_own, Frame, GLOBAL, HEAP, near_of, Place, Rows,
+                       STACK, Stack, Tally, Thread, Threads, UNKNOWN_THREAD)
 from .leaks import leak_text, Leaks
 from .reading import open_regular
 from .results import Process, Results, Run
@@ -432,7 +433,9 @@ def place_of(entry: Entry) -> Place:
     _, _, line, column = own_of(entry.get("stack"))
     block = entry.get("block")
     near: Tuple[str, ...] = ()
-    if isinstance(block, dict):
+    if (text_of(entry.get("raw_class")) or text_of(entry.get("class"))) == LEAK:
+        near = calls_to_leak(stack_of(entry.get("stack")))
+    elif isinstance(block, dict):
         bad = address_of(entry.get("address") if entry.get("bad") is None else entry["bad"])
         near = near_of(kind_of(block.get("kind")), text_of(block.get("name")), bad - address_of(block.get("address")),
                        number_of(block.get("size")), own_of(entry.get("allocated"))[:3])

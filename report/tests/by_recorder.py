@@ -5,7 +5,7 @@ import re
 import xml.dom.minidom
 from typing import Any, Dict, List, Tuple
 
-from testing import expect, expect_in, expect_not_in
+from testing import expect, expect_in, expect_not_in, write_text
 from testing.reports import END, FORMS, FREED, OVERFLOW, Feed, build, freed_block, report, report_test, write_trace
 from testing.side import finding, of_program
 from asancol_report import side as layout
@@ -334,6 +334,32 @@ def leaks_of_runs(folder: str) -> None:
     ran = report(folder, "older.json")
     expect([it[1] for it in leaks_in(ran.out)], [f"{it} leak of {size} byte(s) in 3 object(s)" for it, size in
                                                  (("Direct", 48), ("Indirect", 24))], "without their number")
+
+
+@report_test
+def leaks_through_one_function(folder: str) -> None:
+    """Leaks that one function has allocated for several callers are apart: in reports, results and suppressions."""
+    program = build(folder)
+    places, make = program.places, program.places["make"]
+    lost = [finding(kind, make, given=(0, size), count=1, stack=stack)
+            for kind, size, stack in ((LEAK, 24, 1), (LEAK, 40, 4), (INDIRECT, 8, 4), (LEAK, 7, 0))]
+    stacks = [0, 2, make, places["use"], 2, make, places["drop"]]
+    parts = of_program(program, lost, (), findings=len(lost), stacks=stacks)
+    write_trace(folder, "a.trace", CLEAN, parts)
+    ran = report(folder, "--trace", "a.trace", "--leaks=yes", "--json", "a.jsonl")
+    wanted = [("(by the recorder)", f"{kind} leak of {size} byte(s) in 1 object(s)")
+              for kind, size in (("Direct", 24), ("Direct", 40), ("Indirect", 8), ("Direct", 7))]
+    expect(leaks_in(ran.out), wanted, "of a trace")
+    write_text(f"{folder}/b.jsonl", re.sub(r'"id":"[^"]*"', '"id":"b"', text_of(folder, "a.jsonl")))
+    twice = [("(by the recorder, 2 times, 2 processes)", f"{kind} leak of {2 * size} byte(s) in 2 object(s)")
+             for kind, size in (("Direct", 24), ("Direct", 40), ("Indirect", 8), ("Direct", 7))]
+    expect(leaks_in(report(folder, "a.jsonl", "b.jsonl").out), twice, "of two results")
+    cases: Dict[str, List[int]] = {"leak:^use$": [1, 2, 3], "leak:^drop$": [0, 3], "leak:^make$": []}
+    for rule, left in cases.items():
+        write_text(f"{folder}/rules", f"{rule}\n")
+        for inputs in (["--trace", "a.trace", "--leaks=yes"], ["a.jsonl"]):
+            ran = report(folder, *inputs, "--suppressions=rules")
+            expect(leaks_in(ran.out), [wanted[it] for it in left], f"{rule} {inputs}")
 
 
 @report_test
