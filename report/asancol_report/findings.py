@@ -147,6 +147,7 @@ class Place(NamedTuple):
     column: int
     class_name: str
     near: Tuple[str, ...]  # the variable, or where the block was allocated; of a leak all calls that allocated it
+    rule: str  # the suppression that the event itself matches: other callers may match none
 
 
 class Finding:
@@ -155,7 +156,7 @@ class Finding:
     __slots__ = ("class_name", "raw_class", "access", "size", "call", "address", "bad", "shadow", "rows", "stack",
                  "block",
                  "allocated", "freed", "threads", "fingerprint", "runs", "suppression", "is_known", "follows", "also",
-                 "ordinal", "by_recorder", "said", "is_forgotten", "allocator", "is_awaited")
+                 "ordinal", "by_recorder", "said", "is_forgotten", "allocator", "is_awaited", "rule")
 
     def __init__(self, class_name: str, access: str, size: Optional[int], address: int, bad: Optional[int]) -> None:
         self.class_name = class_name
@@ -184,6 +185,7 @@ class Finding:
         self.said = ""  # what that is, in words
         self.is_forgotten = False  # the recorder keeps no notes on the block any more, which was freed long ago
         self.allocator = ""  # the function that has allocated the block
+        self.rule = ""  # the suppression that its own stacks matched when it came up
         self.is_awaited = False  # parents have waited for all that ended there, and the command has ended well
 
     @property
@@ -234,7 +236,7 @@ class Finding:
     @property
     def place(self) -> Place:
         top = self.top
-        return Place(self.fingerprint, top.line, top.column, self.class_name, self.near)
+        return Place(self.fingerprint, top.line, top.column, self.class_name, self.near, self.rule)
 
     @property
     def near(self) -> Tuple[str, ...]:

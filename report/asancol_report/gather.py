@@ -97,6 +97,7 @@ class Gatherer:
                  leaks: str = YES, counts: Optional[Callable[[Finding], bool]] = None) -> None:
         self.results = results
         self.take_rules: Callable[[List[str]], None] = lambda lines: None  # the suppressions of a program
+        self.rule_of: Callable[[Finding], str] = lambda finding: ""  # the suppression that it matches
         self.leaks = leaks  # what happens to them
         self.counts = counts  # which leaks count that are summed up; None: all
         self.sum = Sum()
@@ -284,6 +285,7 @@ class Gatherer:
             finding.block = finding.block._replace(function=self.stack(sighting.function, "")[-1])
         finding.threads = self.with_stacks(finding.threads, sighting.created)
         finding.set_fingerprint(self.sources)
+        finding.rule = self.rule_of(finding)
         return finding
 
     def with_stacks(self, threads: Threads, created: List[Calls]) -> Threads:

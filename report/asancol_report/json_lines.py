@@ -404,6 +404,7 @@ def finding_of(entry: Entry) -> Finding:
     finding.freed = stack_of(get("freed"))
     finding.threads = threads_of(entry)
     finding.fingerprint = text_of(get("fingerprint"))
+    finding.rule = text_of(get("suppressed"))
     return finding
 
 
@@ -439,7 +440,8 @@ def place_of(entry: Entry) -> Place:
         bad = address_of(entry.get("address") if entry.get("bad") is None else entry["bad"])
         near = near_of(kind_of(block.get("kind")), text_of(block.get("name")), bad - address_of(block.get("address")),
                        number_of(block.get("size")), own_of(entry.get("allocated"))[:3])
-    return Place(entry["fingerprint"], line, column, text_of(entry.get("class")), near)
+    return Place(entry["fingerprint"], line, column, text_of(entry.get("class")), near,
+                 text_of(entry.get("suppressed")))
 
 
 class Reader:

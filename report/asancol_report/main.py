@@ -191,6 +191,7 @@ class Report:
         has_rules = self.suppressions.rules or self.baseline
         gatherer = Gatherer(self.results, run, self.modules, self.symbols, self.sources, self.options.value("--leaks"),
                             self.counts if has_rules else None)
+        gatherer.rule_of = self.suppressions.rule_of
         gatherer.take_rules = lambda lines: self.take_rules(gatherer, lines)
         return gatherer
 
@@ -280,10 +281,10 @@ class Report:
     def judge(self) -> None:
         self.results.place_crashes(self.sources)
         self.results.judge_awaited()
-        findings = self.results.all_places()
-        self.suppressions.apply(findings)
+        self.suppressions.apply(self.results.all_places())
+        self.results.join_judged()
         if self.baseline:
-            self.baseline.apply(findings)
+            self.baseline.apply(self.results.all_places())
         self.results.fold()
 
     def write(self) -> None:

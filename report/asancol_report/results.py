@@ -218,6 +218,16 @@ class Results:
         return self.crash_places.get((process.crash_class, process.fingerprint, line_of_crash(process.stack),
                                       self.is_awaited(process)))
 
+    def join_judged(self) -> None:
+        """Puts together again what differs only in the suppression that once matched, and is judged alike now."""
+        first: Dict[Tuple[Place, bool], Finding] = {}
+        for place, finding in list(self.places.items()):
+            known = first.setdefault((place._replace(rule=""), bool(finding.suppression)), finding)
+            if known is not finding:
+                del self.places[place]
+                for run, tally in finding.runs.items():
+                    self.tally(known, run, tally)
+
     def judge_awaited(self) -> None:
         """Says of each finding whether parents have waited for all processes that ended there."""
         for finding in self.places.values():

@@ -164,13 +164,20 @@ class Suppressions:
         self.rules.append(rule)
         return None
 
+    def match(self, finding: Finding) -> Optional[Union[Rule, PlaceRule]]:
+        return next((rule for rule in self.rules if rule.matches(finding)), None)
+
+    def rule_of(self, finding: Finding) -> str:
+        """Returns the line that suppresses a finding, or nothing."""
+        rule = self.match(finding)
+        return rule.line if rule else ""
+
     def apply(self, findings: Iterable[Finding]) -> None:
         for finding in findings:
-            for rule in self.rules:
-                if rule.matches(finding):
-                    rule.is_used = True
-                    finding.suppression = rule.line
-                    break
+            rule = self.match(finding)
+            if rule:
+                rule.is_used = True
+                finding.suppression = rule.line
 
     def unused(self) -> List[str]:
         return [rule.line for rule in self.rules if not rule.is_used]

@@ -5,7 +5,9 @@ import os
 import re
 
 from testing import expect, expect_in, expect_not_in, write_text
-from testing.reports import END, FREED, Feed, one_trace, report, report_test
+from testing.reports import END, FREED, Feed, build, one_trace, report, report_test, write_trace
+from testing.side import fault, of_program
+from asancol_report.words import plural
 
 
 @report_test
@@ -50,6 +52,25 @@ def suppressions(folder: str) -> None:
         expect((ran.status, ran.out), (2, ""), rule)
         expect_in(ran.err, f"asancol-report: rules:2: {rule}: ")
     expect(report(folder, "a.jsonl", "--suppressions", "missing").status, 4, "missing")
+
+
+@report_test
+def suppressions_of_callers(folder: str) -> None:
+    """A suppression of one caller leaves the events of others at the same place, whichever came first."""
+    program = build(folder)
+    use, make, drop = (program.places[name] for name in ("use", "make", "drop"))
+    lines = FREED + FREED.replace("#5", "#6") + FREED.replace("#5", "#7") + END
+    for order in ((1, 4, 1), (4, 1, 4)):
+        faults = [fault(drop, 0x2000, 16, make, make, stacks=(number, 0, 0)) for number in order]
+        parts = of_program(program, faults, [0, 0, 0, 0, 1, 2, 3], stacks=[0, 2, drop, use, 2, drop, make])
+        write_trace(folder, "c.trace", lines, parts)
+        expect_in(report(folder, "--trace", "c.trace").out, "3 reports at 1 place;")
+        write_text(f"{folder}/rules", "heap-use-after-free:^use$\n")
+        known = order.count(1)
+        ran = report(folder, "--trace", "c.trace", "--suppressions=rules", "--json", "c.jsonl")
+        expect_in(ran.out, plural(3 - known, "report") + f" at 1 place, {known} suppressed;", " in make ")
+        expect_in(report(folder, "c.jsonl", "--suppressions=rules").out, f"at 1 place, {known} suppressed;")
+        expect_in(report(folder, "c.jsonl").out, "3 reports at 1 place;")
 
 
 @report_test
