@@ -10,6 +10,7 @@ from .by_recorder import signed
 from .class_names import ALIGNMENTS, ATTEMPTS, MISMATCH, NEGATIVE_SIZE, SIZE_MISMATCH, SIZES_ASKED, TOO_BIG
 from .crashes import Crash
 from .findings import Block, DYNAMIC, Finding, Frame, GLOBAL, HEAP, place_text, Stack, Threads, UNKNOWN_THREAD
+from .functions import brief
 from .leaks import total
 from .results import Process, Results
 from .text import Text
@@ -82,6 +83,12 @@ class AsanText(Text):
         return iter(())
 
     # Reports.
+
+    def place_of(self, top: Frame) -> str:
+        """A module is followed by its build id, as in a frame."""
+        if top.file or top.note or not top.build:
+            return super().place_of(top)
+        return module_of(top) + (f" in {printable(brief(top.function))}" if top.function else "")
 
     def finding_of(self, finding: Finding, results: Results) -> Iterator[str]:
         bases = results.bases_of(finding)

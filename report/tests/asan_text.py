@@ -4,6 +4,7 @@ import os
 import re
 
 from testing import expect, expect_in, expect_not_in
+from testing.programs import call
 from testing.reports import one_trace, report, report_test
 
 WANTED = """\
@@ -52,6 +53,17 @@ def text_of_traces(folder: str) -> None:
     expect(normal(ran.out), WANTED + SUMMARY, "the text")
     again = report(folder, "result.jsonl", "--source-root", ".", "--format=asan")
     expect(normal(again.out), WANTED + SUMMARY, "the text of a result")
+
+
+@report_test
+def without_lines(folder: str) -> None:
+    """A frame and the last line have the module, its build id and the function."""
+    one_trace(folder)
+    call(["strip", "-g", f"{folder}/program"], check=True)
+    text = report(folder, "--trace", "a.trace", "--format=asan").out
+    module = r"\(\S*/program\+0x[0-9a-f]+\) \(BuildId: [0-9a-f]{40}\)"
+    expect(len(re.findall(rf"^    #0 0x[0-9a-f]+ in drop {module}$", text, re.M)), 1, text)
+    expect(len(re.findall(rf"^SUMMARY: AddressSanitizer: heap-buffer-overflow {module} in drop$", text, re.M)), 1, text)
 
 
 @report_test
