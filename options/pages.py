@@ -9,6 +9,8 @@ from table import Option, Program, Wrong
 
 # Literal text, a value, or another page.
 MARKED = re.compile(r"`([^`]+)`|\*([^*]+)\*|([\w+-]+)\((\d)\)")
+# Alone in an argument, they are not text of the macro.
+DELIMITERS = (".", ",", ":", ";", "(", ")", "[", "]", "?", "!", "|")
 GLUED = re.compile(r"^(.*?)(\S*)$")
 REGION = re.compile(r'(?<=^\.\\" options: )(?:(.+): )?(.+)\n(?:.*\n)*?(?=^\.\\" end of options$)', re.M)
 
@@ -21,6 +23,8 @@ def line_of(match: "re.Match[str]", before: str, after: str, program: str) -> st
     word = literal or value or f"{page} {section}"
     macro = "Ar" if value else "Xr" if page else "Fl" if word.startswith("-") else "Ql"
     word = word[1:] if macro == "Fl" else word
+    if word in DELIMITERS:
+        word = f"\\&{word}"
     return " ".join([f".{macro}", *before, word, *after])
 
 
