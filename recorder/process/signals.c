@@ -281,6 +281,17 @@ static bool is_function(uintptr_t handler)
     return handler != (uintptr_t)SIG_DFL && handler != (uintptr_t)SIG_IGN;
 }
 
+/* What the UBSan of Clang calls before all else of a program that is linked with it. */
+extern void (*__local_ubsan_preinit)(void) __attribute__((weak));
+
+/* Whether the action that a program begins with is of that runtime, which prints crashes, but leaves this to
+   AddressSanitizer in a program that has both. */
+static bool is_of_ubsan(int number, const struct system_action *action)
+{
+    return place_of(number) < FAULTS && is_function((uintptr_t)action->handler) && !IS_PRELOADED
+           && &__local_ubsan_preinit != NULL;
+}
+
 /* Handles a signal whose action is the default. At once: it is taken back where the program has another one. The signal
    may not come in between, so this is for a process with one thread, in which it is blocked; and the system drops what
    waits once it is to be ignored again. */
@@ -290,6 +301,8 @@ static void handle_default(int number, uint64_t mask, bool at_once)
     int failed = at_once ? action_handle(number, on_ending, mask, &seen) : action_set(number, NULL, &seen);
     if (failed != 0)
         return;
+    if (is_of_ubsan(number, &seen))
+        seen.handler = NULL;
     if (!at_once && seen.handler == NULL)
         action_handle(number, on_ending, mask, NULL);
     if (at_once && seen.handler != NULL)
