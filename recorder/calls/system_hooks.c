@@ -7,6 +7,7 @@
    Called: by the program, in any thread, also in a signal handler. Lock: as calls.h says. */
 #define _GNU_SOURCE
 #include <linux/aio_abi.h>
+#include <linux/netlink.h>
 #include <sys/ipc.h>
 #include <sys/msg.h>
 
@@ -23,27 +24,33 @@ enum { SIGNALS_BYTES = 8, ACTION_BYTES = 32, USTAT_BYTES = 32, OLD_NAME_BYTES = 
 
 /* The words. Each is one call, since there are hundreds. */
 
+/* Whether the program may have memory there: none is at null or in the recorder's maps. The shadow has no shadow. */
+static bool may_be_there(long start)
+{
+    return start != 0 && !is_in_maps((uintptr_t)start);
+}
+
 static __attribute__((noinline)) void reads(long start, size_t size, struct call call)
 {
-    if (start != 0)
+    if (may_be_there(start))
         READS((const void *)start, size);
 }
 
 static __attribute__((noinline)) void writes(long start, size_t size, struct call call)
 {
-    if (start != 0)
+    if (may_be_there(start))
         WRITES((const void *)start, size);
 }
 
 static __attribute__((noinline)) void reads_array(long start, long count, size_t size, struct call call)
 {
-    if (start != 0 && count > 0)
+    if (may_be_there(start) && count > 0)
         READS_ARRAY((const void *)start, count, size);
 }
 
 static __attribute__((noinline)) void writes_array(long start, long count, size_t size, struct call call)
 {
-    if (start != 0 && count > 0)
+    if (may_be_there(start) && count > 0)
         WRITES_ARRAY((const void *)start, count, size);
 }
 
@@ -69,20 +76,21 @@ static __attribute__((noinline)) void writes_pieces(long start, long count, size
 static __attribute__((noinline)) void reads_whole_message(const struct msghdr *message, struct call call)
 {
     struct msghdr head = head_of(message);
-    reads_message(message, call);
+    if (may_be_there((long)message))
+        reads_message(message, call);
     reads_pieces((long)head.msg_iov, (long)head.msg_iovlen, true, call);
 }
 
 HELPER static void reads_parts(const struct msghdr *message, struct call call)
 {
     struct msghdr head = head_of(message);
-    READS(message, sizeof *message);
+    reads((long)message, sizeof *message, call);
     reads_pieces((long)head.msg_iov, (long)head.msg_iovlen, false, call);
 }
 
 HELPER static void reads_whole_messages(const struct mmsghdr *messages, unsigned count, struct call call)
 {
-    READS_ARRAY(messages, least(count, MOST_MESSAGES), sizeof *messages);
+    reads_array((long)messages, (long)least(count, MOST_MESSAGES), sizeof *messages, call);
     for (unsigned i = 0; i < count && i < MOST_MESSAGES && IS_THERE(&messages[i]); i++)
         reads_whole_message(&messages[i].msg_hdr, call);
 }
@@ -107,11 +115,11 @@ HELPER static void reads_blocks(struct iocb *const *blocks, long count, struct c
     reads_array((long)blocks, count, sizeof *blocks, call);
     for (long i = 0; i < count && IS_THERE(&blocks[i]); i++) {
         const struct iocb *block = blocks[i];
-        READS(block, sizeof *block);
+        reads((long)block, sizeof *block, call);
         if (!IS_THERE(block))
             continue;
         if (block->aio_lio_opcode == IOCB_CMD_PWRITE)
-            READS((const void *)block->aio_buf, block->aio_nbytes);
+            reads((long)block->aio_buf, block->aio_nbytes, call);
         if (block->aio_lio_opcode == IOCB_CMD_PWRITEV || block->aio_lio_opcode == IOCB_CMD_PREADV)
             reads_pieces((long)block->aio_buf, (long)block->aio_nbytes, false, call);
         if (block->aio_lio_opcode == IOCB_CMD_PWRITEV)
@@ -119,14 +127,23 @@ HELPER static void reads_blocks(struct iocb *const *blocks, long count, struct c
     }
 }
 
+/* As poll does, which refuses more. */
+HELPER static void checks_polled(enum code code, long files, long count, struct call call)
+{
+    if (may_be_there(files) && (unsigned)count <= MOST_FILES)
+        checks_files(code, (struct pollfd *)files, (unsigned)count, call);
+}
+
 HELPER static size_t length_at(const socklen_t *length)
 {
     return IS_THERE(length) ? *length : 0;
 }
 
+/* The system refuses one that is longer. */
 HELPER static size_t handle_bytes(const struct file_handle *handle)
 {
-    return sizeof *handle + (IS_THERE(handle) ? handle->handle_bytes : 0);
+    unsigned length = IS_THERE(handle) ? handle->handle_bytes : 0;
+    return sizeof *handle + (length <= MAX_HANDLE_SZ ? length : 0);
 }
 
 HELPER static size_t rights_bytes(const struct __user_cap_header_struct *head)
@@ -147,6 +164,18 @@ HELPER static size_t nodes_bytes(long count)
     enum { WORD = CHAR_BIT * sizeof(long) };
     bool is_taken = count > 1 && (size_t)count <= SYSTEM_PAGE * CHAR_BIT;
     return is_taken ? ((size_t)count - 1 + WORD - 1) / WORD * sizeof(long) : 0;
+}
+
+/* What has come in. With MSG_TRUNC a stream drops its bytes, and writes none. */
+HELPER static size_t received(long result, long flags)
+{
+    return flags & MSG_TRUNC ? 0 : (size_t)result;
+}
+
+/* Whether an option's length is that of all its data, although less may be written. */
+HELPER static bool says_whole_length(long level, long option)
+{
+    return (int)level == SOL_NETLINK && (int)option == NETLINK_LIST_MEMBERSHIPS;
 }
 
 HELPER static void writes_peeked(int request, long with, struct call call)
@@ -173,15 +202,16 @@ HELPER static void writes_peeked(int request, long with, struct call call)
 #define OUT_MESSAGES(n, count) writes_messages((const struct mmsghdr *)a##n, count, call)
 #define OUT_OPTION(n, length) OUT(n, length_at((const socklen_t *)a##length))
 #define BLOCKS(n, count) reads_blocks((struct iocb *const *)a##n, count, call)
-#define SET(n) reads_set((const void *)a##n, (int)a1, call)
-#define FILES(n, count) checks_files(CODE_LOAD, (struct pollfd *)a##n, (unsigned)(count), call)
-#define OUT_FILES(n, count) checks_files(CODE_STORE, (struct pollfd *)a##n, (unsigned)(count), call)
+#define SET(n) reads_set(may_be_there(a##n) ? (const void *)a##n : NULL, (int)a1, call)
+#define FILES(n, count) checks_polled(CODE_LOAD, a##n, count, call)
+#define OUT_FILES(n, count) checks_polled(CODE_STORE, a##n, count, call)
 #define SIGNALS(n, size) IN(n, (size) == SIGNALS_BYTES ? SIGNALS_BYTES : 0)
 #define HANDLE(n) IN(n, handle_bytes((const struct file_handle *)a##n))
 #define OUT_HANDLE(n) OUT(n, handle_bytes((const struct file_handle *)a##n))
 #define RIGHTS(n) rights_bytes((const struct __user_cap_header_struct *)a##n)
 #define EVENT(n) IN(n, event_bytes((const uint32_t *)a##n))
 #define NODES(n) nodes_bytes(a##n)
+#define IN_TRACED(n, request) reads_traced((int)(request), may_be_there(a##n) ? (const void *)a##n : NULL, call)
 #define OUT_TRACED(n, request) writes_peeked((int)(request), a##n, call)
 #define WITHIN(n, most) ((int)a##n > 0 && (unsigned)a##n <= (most) ? (unsigned)a##n : 0)
 
@@ -205,9 +235,7 @@ HELPER static void writes_peeked(int request, long with, struct call call)
 
 TOP_ASM(".pushsection .text\n"
 #include "calls/system_hooks.def"
-        "\t.cfi_startproc\n"
-        RETURN
-        "\t.cfi_endproc\n"
+        "\t.cfi_startproc\n" LANDING RETURN "\t.cfi_endproc\n"
         ".popsection\n");
 
 #undef NONE

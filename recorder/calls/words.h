@@ -337,10 +337,12 @@ HELPER static void reads_set(const void *set, int count, struct call call)
 
 #define READS_SET(set, count) reads_set(set, count, call)
 
+/* How many files the system waits for at once. */
+enum { MOST_FILES = 1 << 20 };
+
 /* The awaited events, and the found ones. */
 HELPER static void checks_files(enum code code, struct pollfd *files, nfds_t count, struct call call)
 {
-    enum { MOST_FILES = 1 << 20 }; /* as the system has it */
     for (nfds_t i = 0; i < count && i < MOST_FILES && files != NULL; i++) {
         if (code == CODE_LOAD)
             READS(&files[i], offsetof(struct pollfd, revents));
@@ -545,15 +547,23 @@ HELPER static struct request traced_of(int request)
     }
 }
 
+HELPER static void reads_traced(int request, const void *with, struct call call)
+{
+    READS(with, traced_of(request).read);
+    const struct iovec *registers = with;
+    if (request == PTRACE_SETREGSET && IS_THERE(registers))
+        READS(registers->iov_base, registers->iov_len);
+}
+
 HELPER static void writes_traced(int request, void *with, struct call call)
 {
     WRITES(with, traced_of(request).written);
     const struct iovec *registers = with;
-    if (request == PTRACE_GETREGSET)
+    if (request == PTRACE_GETREGSET && IS_THERE(registers))
         WRITES(registers->iov_base, registers->iov_len);
 }
 
-#define READS_TRACED(request, with) READS(with, traced_of(request).read)
+#define READS_TRACED(request, with) reads_traced(request, with, call)
 #define WRITES_TRACED(request, with) writes_traced(request, with, call)
 
 /* A stream in memory, which may come to use all of it. */

@@ -96,7 +96,8 @@ USES: Dict[str, Sequence[Use]] = {
     **named("fcntl", ("sizeof(struct flock)", "zeros, F_GETLK, p", "fcntl"),
             ("sizeof(struct flock)", "zeros, F_SETLK, p", "fcntl")),
     **named("fcntl64", ("sizeof(struct flock)", "zeros, F_SETLK, p", 0)),
-    **named("ioctl", (4, "pipe_to(room), FIONREAD, p", "ioctl"), (4, "zeros, FIONBIO, p", "ioctl")),
+    **named("ioctl", (4, "pipe_to(room), FIONREAD, p", "ioctl"), (4, "zeros, FIONBIO, p", "ioctl"),
+            (4, "-1, (int)TIOCGPTN, p", 0)),
     **named("name_to_handle_at", (NO_FILE, "-1, p, room, room, 0", -2), (8, '-1, "/", p, room, 0', -95),
             (16, '-1, "/", sized(p, 8), room, 0', 0), (4, '-1, "/", room, p, 0', 0)),
     **named("open_by_handle_at", (8, "-1, p, 0", -9), (16, "-1, sized(p, 8), 0", -9)),
@@ -189,7 +190,7 @@ USES: Dict[str, Sequence[Use]] = {
     # Processes.
     **named("wait4", (4, "-1, p, 0, 0", 9), ("sizeof(struct rusage)", "-1, 0, 0, p", 9)),
     **named("waitpid", (4, "-1, p, 0", 9)),
-    **named("waitid", (128, "0, 0, p, 0, 0", 0)),
+    **named("waitid", (128, "0, 0, p, 0, 0", 0), ("sizeof(struct rusage)", "0, 0, 0, 0, p", 0)),
     **named("getresgid", (4, "p, room, room", "getresgid"), (4, "room, p, room", "getresgid"),
             (4, "room, room, p", "getresgid")),
     **named("getresuid", (4, "p, room, room", "getresuid"), (4, "room, p, room", "getresuid"),
@@ -211,7 +212,8 @@ USES: Dict[str, Sequence[Use]] = {
     **named("prlimit64", (16, "0, 99, p, 0", "prlimit64"), (16, "0, 0, 0, p", "prlimit64")),
     **named("getrusage", ("sizeof(struct rusage)", "0, p", "getrusage")),
     **named("ptrace", (8, "PTRACE_PEEKDATA, -1, 0, p", 0), (128, "PTRACE_SETSIGINFO, -1, 0, p", -3),
-            (128, "PTRACE_GETSIGINFO, -1, 0, p", 0), (9, "PTRACE_GETREGSET, -1, 0, piece(p, 9)", 0)),
+            (128, "PTRACE_GETSIGINFO, -1, 0, p", 0), (9, "PTRACE_GETREGSET, -1, 0, piece(p, 9)", 0),
+            (16, "PTRACE_SETREGSET, -1, 0, p", -3), (9, "PTRACE_SETREGSET, -1, 0, piece(p, 9)", -3)),
     **named("get_robust_list", (8, "0, p, room", "get_robust_list"), (8, "0, room, p", "get_robust_list")),
     **named("getcpu", (4, "p, 0, 0", "getcpu"), (4, "0, p, 0", "getcpu")),
     # The system.
@@ -238,12 +240,24 @@ USES: Dict[str, Sequence[Use]] = {
     **named("move_pages", (8, "0, 1, p, 0, 0, 0", -22), (4, "0, 1, 0, p, 0, 0", -22), (4, "0, 1, 0, 0, p, 0", 0)),
 }
 
+# What the system leaves alone, since it refuses the call or writes less than the result: a block that is too short.
+LEFT_ALONE: Dict[str, Sequence[Use]] = {
+    **named("poll ppoll", (8, "p, -1, 0, 0, 8", -22)),
+    **named("open_by_handle_at", (8, "-1, sized(p, 129), 0", -22)),
+    **named("recv recvfrom", (1, "-1, p, 99, MSG_TRUNC, 0, 0", 9)),
+    **named("recvmsg", (1, "-1, message(piece(p, 9), 1), MSG_TRUNC", 9)),
+    **named("getsockopt", (4, "-1, SOL_NETLINK, NETLINK_LIST_MEMBERSHIPS, p, sized(room, 8)", 0)),
+    **named("waitid", (8, "0, 0, 0, WNOHANG, p", 0)),
+    **named("gethostname", (1, "0, 9", 0)),
+}
+
 HEAD = """
 #define _GNU_SOURCE
 #include <errno.h>
 #include <fcntl.h>
 #include <linux/aio_abi.h>
 #include <linux/capability.h>
+#include <linux/netlink.h>
 #include <signal.h>
 #include <stdint.h>
 #include <stdio.h>
@@ -264,6 +278,7 @@ HEAD = """
 #include <sys/sysinfo.h>
 #include <sys/timex.h>
 #include <sys/uio.h>
+#include <sys/wait.h>
 #include <unistd.h>
 static char room[4096], *pages;
 static int zeros, null;
@@ -344,13 +359,13 @@ def arguments_of(text: str) -> List[str]:
     return [f"A({it.strip()})" for it in parts]
 
 
-def source(are_made: bool = False) -> Tuple[str, Dict[str, str]]:
+def source(uses: Dict[str, Sequence[Use]], are_made: bool = False) -> Tuple[str, Dict[str, str]]:
     """A program that tries each use, or those whose call is made; and what each of its lines is."""
     lines, entries, tried = HEAD.strip().splitlines(), [], {}
     for row in table():
         hooks = [f"__sanitizer_syscall_{moment}_impl_{row.name}" for moment in ("pre", "post")]
         lines.append(f"void {hooks[0]}(), {hooks[1]}();")
-        for held, given, result in USES.get(row.name, ()):
+        for held, given, result in uses.get(row.name, ()):
             is_made = isinstance(result, str)
             if are_made and not is_made:
                 continue
@@ -371,7 +386,7 @@ CALLS_LIBRARY = "int used(int, char **); int main(int count, char **argv) { retu
 def check_hooks(suite: Suite, folder: str, compiler: Compiler, way: str) -> None:
     """Each use is silent with a block that has room, and found at its line, as a call of that name, with one byte
     less. Nothing is looked at where there is no recorder."""
-    text, tried = source()
+    text, tried = source(USES)
     write(folder, hooks_c=text, main_c=CALLS_LIBRARY)
     flags = ["-w", "-O1", "-fno-builtin", "-fno-inline", "-fno-optimize-sibling-calls"]
     if way == "-shared":
@@ -409,7 +424,7 @@ TAKEN = ("capget(p, 0)", "getrandom", "process_vm", "pread64", "pwrite64", "read
 
 def check_sizes(suite: Suite, folder: str, compiler: Compiler) -> None:
     """The system takes a block of that size that ends where memory does, and one byte less is EFAULT."""
-    text, tried = source(are_made=True)
+    text, tried = source(USES, are_made=True)
     write(folder, hooks_c=text)
     compiler.c(folder, ["hooks.c"], f"{folder}/hooks", "-w")
     whole, less = (run(["./hooks", it, "edge"], folder).stdout.decode().split() for it in ("0", "1"))
@@ -421,6 +436,21 @@ def check_sizes(suite: Suite, folder: str, compiler: Compiler) -> None:
     expect(taken, [], "taken")
 
 
+def check_left_alone(suite: Suite, folder: str, compiler: Compiler) -> None:
+    """Nothing is reported of memory that the system leaves alone. Words that are no pointers end no hook, whose call
+    would answer EFAULT: in the shadow, beyond all memory, and at no address."""
+    words = ("0xdeadbeef", "1ul << 47", "0xdeadul << 48")
+    wild: List[Use] = [(1, ", ".join([word] * 6), -errno.EFAULT) for word in words]
+    uses: Dict[str, Sequence[Use]] = {row.name: [*wild, *LEFT_ALONE.get(row.name, ())] for row in table()}
+    text, tried = source(uses)
+    write(folder, hooks_c=text)
+    compiler.c(folder, ["hooks.c"], f"{folder}/hooks", "-w")
+    ran = run(["./hooks", "0"], folder, ASANCOL_TRACE="t.trace", ASANCOL_WHERE="1")
+    expect((ran.returncode, ran.stderr), (0, b""), "status")
+    said = placed(suite.asancol, f"{folder}/t.trace")[0]
+    expect([tried.get(it.line, it.line) for it in said], [], "reports")
+
+
 def check_all_tried(suite: Suite, folder: str) -> None:
     checked = {row.name for row in table() if row.word != "NONE"}
     expect(sorted(checked ^ set(USES)), [], "hooks without a use, and uses without a hook")
@@ -430,6 +460,7 @@ def tests(suite: Suite, compiler: Compiler) -> None:
     for way in ("", "-static", "-shared"):
         suite.test(f"{compiler} hooks of system calls {way}".rstrip(), check_hooks, compiler, way)
     suite.test(f"{compiler} hooks of system calls: sizes of the system", check_sizes, compiler)
+    suite.test(f"{compiler} hooks of system calls: left alone", check_left_alone, compiler)
 
 
 def tests_of_all(suite: Suite) -> None:
