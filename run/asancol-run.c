@@ -155,9 +155,9 @@ static void say_summary(const struct sum *sum, bool is_incomplete, bool lists_un
 static void say_awaited(size_t count)
 {
     if (count == 1)
-        say("asancol: 1 process whose parent waited for it was ended by a signal; --crashes shows it");
+        say("asancol: 1 process whose parent waited for it crashed or halted; --crashes shows it");
     else
-        say("asancol: %zu processes whose parents waited for them were ended by signals; --crashes shows them", count);
+        say("asancol: %zu processes whose parents waited for them crashed or halted; --crashes shows them", count);
 }
 
 /* What holds of the run, and not of one process. */

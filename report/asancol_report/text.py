@@ -297,8 +297,8 @@ def awaited_text(count: int) -> str:
     """Returns the line about crashes that do not count, since parents have waited for them. asancol-run says the same
     of one run (`say_awaited`)."""
     if count == 1:
-        return "1 process whose parent waited for it was ended by a signal; --crashes shows it"
-    return f"{count} processes whose parents waited for them were ended by signals; --crashes shows them"
+        return "1 process whose parent waited for it crashed or halted; --crashes shows it"
+    return f"{count} processes whose parents waited for them crashed or halted; --crashes shows them"
 
 
 def totals_line(results: Results) -> str:

@@ -178,7 +178,7 @@ def crash_that_was_waited_for_does_not_count(folder: str) -> None:
         feed.process(number, NO_REPORTS, crashed(program, "use"), signal=11, fate="no-close", why="ended by SIGSEGV",
                      **fields)
     ran = feed.end()
-    line = "asancol: 2 processes whose parents waited for them were ended by signals; --crashes shows them\n"
+    line = "asancol: 2 processes whose parents waited for them crashed or halted; --crashes shows them\n"
     expect_in(ran.out, "asancol: process 102 ./program: ended by SIGSEGV", "all complete, 1 crashed\n" + line,
               "SUMMARY: asancol: SEGV")
     expect(report(folder, "a.jsonl", "--source-root", ".").out, ran.out, "read again")
@@ -199,7 +199,7 @@ def halt_that_was_waited_for_does_not_count(folder: str) -> None:
     """Its report counts if another process has it, in this run or in another."""
     program = build(folder)
     halted = {"signal": 6, "fate": "no-close", "why": "ended by SIGABRT", "halted": True}
-    line = "asancol: 1 process whose parent waited for it was ended by a signal; --crashes shows it\n"
+    line = "asancol: 1 process whose parent waited for it crashed or halted; --crashes shows it\n"
 
     def ran(name: str, *awaited: bool) -> str:
         feed = Feed(folder, "--json", name)

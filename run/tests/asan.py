@@ -155,7 +155,7 @@ int main(int count, char **argv) {
         free(block);
         _exit(0); }
     (void)argv;
-    return waitpid(child, &status, 0) != child || !WIFSIGNALED(status); }
+    return waitpid(child, &status, 0) != child || status == 0; }
 """
 
 
@@ -165,11 +165,13 @@ def check_death_test(suite: Suite, folder: str) -> None:
     write_text(f"{folder}/d.c", DEATH_TEST)
     call([f"{TOP}/recorder/asancol-cc", "-g", "-w", "d.c", "-o", "d"], cwd=folder, check=True)
     halts = {"ASAN_OPTIONS": "halt_on_error=1", "ASANCOL_REPORT": REPORT}
-    line = "asancol: 1 process whose parent waited for it was ended by a signal; --crashes shows it\n"
+    line = "asancol: 1 process whose parent waited for it crashed or halted; --crashes shows it\n"
     result = f"{folder}/r"
     ran = suite.run("--json", result, "--", f"{folder}/d", **halts)
     expect_ran(ran, 0, "asancol: no reports; 2 processes, ", line, absent=[PAST, "SUMMARY: asancol"])
     expect_in(suite.run_argv([REPORT, result]).out, "asancol: no reports; 2 processes, ", line)
+    exits = {"ASAN_OPTIONS": "halt_on_error=1:abort_on_error=0", "ASANCOL_REPORT": REPORT}
+    expect_ran(suite.run("--", f"{folder}/d", **exits), 0, line, absent=[PAST])
     expect_in(suite.run_argv([REPORT, "--crashes", result]).out, PAST, "asancol: 1 report at 1 place; 2 processes, ")
     expect_ran(suite.run("--", f"{folder}/d", **halts), 0, "asancol: no reports; 2 processes, ", line)
     expect_ran(suite.run("-q", "--", f"{folder}/d", **halts), 0, absent=["asancol: "])

@@ -428,7 +428,7 @@ def check_crash(suite: Suite, folder: str) -> None:
         expect_ran(ran, 98, "asancol: 4 processes (", f", ..) {suite.program}: ended by SIGSEGV")
 
 
-AWAITED = "asancol: 2 processes whose parents waited for them were ended by signals; --crashes shows them\n"
+AWAITED = "asancol: 2 processes whose parents waited for them crashed or halted; --crashes shows them\n"
 
 
 def check_awaited(suite: Suite, folder: str) -> None:
@@ -451,7 +451,7 @@ def check_awaited(suite: Suite, folder: str) -> None:
     expect_ran(run_real(suite, "-q", "--", "sh", "-c", f"{line}; true"), 0, absent=["asancol"])
     # The parent was recorded too, and says how its child has ended.
     by_recorded = run_real(suite, "--", suite.program, "aborts")
-    expect_ran(by_recorded, 0, "1 process whose parent waited for it was ended by a signal", absent=["SUMMARY"])
+    expect_ran(by_recorded, 0, "1 process whose parent waited for it crashed or halted", absent=["SUMMARY"])
     # The command's own, one that nobody has waited for, and those of a command that has failed.
     expect_ran(run_real(suite, "--", suite.program, "crashes"), -11, CRASHED, absent=["waited for"])
     left = f"sh -c '{suite.program} crashes & exec true'; sleep 0.2"
