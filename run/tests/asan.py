@@ -182,6 +182,16 @@ def check_death_test(suite: Suite, folder: str) -> None:
     expect_ran(suite.run("--", f"{folder}/d", ASANCOL_REPORT=REPORT), 99, PAST, absent=["waited for"])
 
 
+def check_with_undefined(suite: Suite, folder: str) -> None:
+    """A crash is printed also if the program has UndefinedBehaviorSanitizer's runtime, which begins before all else."""
+    write_text(f"{folder}/c.c", "int main(int n, char **v) { (void)v; return *(volatile int *)(n > 5 ? &n : 0); }\n")
+    for compiler in compilers_there():
+        argv = [f"{TOP}/recorder/asancol-cc", "-g", "-fsanitize=address,undefined", "c.c", "-o", "c"]
+        if call(argv, cwd=folder, capture_output=True, env={**os.environ, "ASANCOL_CC": compiler}).returncode == 0:
+            ran = suite.run("--", f"{folder}/c", ASANCOL_REPORT=REPORT)
+            expect_ran(ran, -signal.SIGSEGV, "1 crashed", "SUMMARY: asancol: SEGV ", " in main\n")
+
+
 def check_halts(suite: Suite, folder: str) -> None:
     """A report at which a process has halted stands once in each file, with functions and lines: printed by the run,
     or by the process itself, if its standard error is another file."""
@@ -399,8 +409,8 @@ def tests(suite: Suite) -> None:
         leave_out("asan: the variables are asancol-run's own")
         return
     for name, run in (
-        ("statuses", check_statuses), ("ends", check_ends), ("named", check_named), ("asked", check_asked),
-        ("symbolizer", check_symbolizer),
+        ("statuses", check_statuses), ("ends", check_ends), ("with undefined", check_with_undefined),
+        ("named", check_named), ("asked", check_asked), ("symbolizer", check_symbolizer),
         ("leaks", check_leaks), ("functions", check_functions), ("death test", check_death_test),
         ("halts", check_halts), ("halts at once", check_at_once), ("exit at a halt", check_exit_at_halt),
         ("log path", check_log_path),
