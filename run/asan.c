@@ -261,17 +261,29 @@ static const char *meant_by(const struct asan_word *word)
     return nearest;
 }
 
-static void add_word(char **list, const struct asan_word *word, const char *nearest)
+/* In parentheses, which name was meant, or why the word has no effect if that does not go without saying. */
+static const char *remark_on(const struct asan_word *word, enum done done)
+{
+    static char text[DISTANCE_ROOM + sizeof " (is  meant?)"]; /* until the next word */
+    const char *nearest = done == UNKNOWN ? meant_by(word) : NULL;
+    if (done == WITHOUT_EFFECT && word->option == ASAN_suppressions)
+        return " (not a readable file)";
+    if (nearest == NULL)
+        return "";
+    snprintf(text, sizeof text, " (is %s meant?)", nearest);
+    return text;
+}
+
+static void add_word(char **list, const struct asan_word *word, const char *remark)
 {
     size_t length = *list != NULL ? strlen(*list) : 0;
     char *more;
     if (length > MAX_LIST)
         return;
     int shown = word->value_length < 200 ? (int)word->value_length : 200;
-    if (asprintf(&more, "%s%s%.*s%s%.*s%s%s%s", length > 0 ? *list : "", length > 0 ? ", " : "",
+    if (asprintf(&more, "%s%s%.*s%s%.*s%s", length > 0 ? *list : "", length > 0 ? ", " : "",
                  word->name_length < 80 ? (int)word->name_length : 80, word->name, shown > 0 ? "=" : "", shown,
-                 word->value, nearest != NULL ? " (is " : "", nearest != NULL ? nearest : "",
-                 nearest != NULL ? " meant?)" : "")
+                 word->value, remark)
         < 0)
         must(NULL);
     free(*list);
@@ -302,7 +314,7 @@ static void take_variable(struct options *options, const char *variable)
     while (at != NULL && asan_next(&at, &word))
         if (word.name_length > 0) {
             enum done done = take_word(options, &word);
-            add_word(&lists[done], &word, done == UNKNOWN ? meant_by(&word) : NULL);
+            add_word(&lists[done], &word, remark_on(&word, done));
         }
     add_line(&options->asan_notes, variable, "without effect here: ", lists[WITHOUT_EFFECT],
              "unknown: ", lists[UNKNOWN]);

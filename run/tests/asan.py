@@ -110,7 +110,8 @@ def check_leaks(suite: Suite, folder: str) -> None:
     ran(0, "leaks (ASANCOL_LEAKS is not 1)", before="ASAN_OPTIONS=detect_leaks=0", ASAN_OPTIONS="detect_leaks=1")
     write_text(f"{folder}/known", "# known\nleak:^lose$\nodr_violation:x\n")
     ran(0, "no reports, 1 suppressed;", ASAN_OPTIONS="detect_leaks=1", LSAN_OPTIONS=f"suppressions={folder}/known")
-    ran(0, f"LSAN_OPTIONS: without effect here: suppressions={folder}/no\n", LSAN_OPTIONS=f"suppressions={folder}/no")
+    ran(0, f"LSAN_OPTIONS: without effect here: suppressions={folder}/no (not a readable file)\n",
+        LSAN_OPTIONS=f"suppressions={folder}/no")
 
 
 def check_relative_rules(suite: Suite, folder: str) -> None:
@@ -128,7 +129,7 @@ def check_relative_rules(suite: Suite, folder: str) -> None:
     ran(0, "no reports, 1 suppressed;", program)
     ran(0, "no reports, 1 suppressed;", "../bin/linked")
     ran(0, "no reports, 1 suppressed;", "linked", PATH=f"{folder}/bin:{os.environ['PATH']}")
-    ran(99, "LSAN_OPTIONS: without effect here: suppressions=known\n", "sh", "-c", program)
+    ran(99, "LSAN_OPTIONS: without effect here: suppressions=known (not a readable file)\n", "sh", "-c", program)
     write_text(f"{folder}/away/known", "leak:nothing\n")
     ran(99, "Direct leak of 300 byte(s)", program)
     ran(0, "no reports, 1 suppressed;", "sh", "-c", program, cwd=".")
