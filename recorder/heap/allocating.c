@@ -443,13 +443,12 @@ bool heap_say_allocated(const void *pointer, uintptr_t caller)
     call_site place = origin_is_noted() ? call_site_of(caller) : 0;
     if (is_spare(pointer))
         return true;
-    bool is_entered = heap_enter();
+    heap_lock();
     const struct block *block = block_from(pointer);
     bool is_live = block != NULL && is_in_use(block);
     if (is_live && place != 0)
         SET_NOTE(arena.call_sites[block - arena.blocks].allocated, place);
-    if (is_entered)
-        heap_leave();
+    heap_unlock();
     return is_live;
 }
 

@@ -25,7 +25,7 @@ void heap_thread_ends(void);
 /* In a child of a fork: the other threads are gone, and none was in the allocator. (process/process.c) */
 void heap_is_alone(void);
 /* No other thread is in the allocator between these two. A signal handler may come between and do the same.
-   (process/, leaks/, stream/) */
+   (process/, leaks/, stream/, allocating.c) */
 void heap_lock(void);
 void heap_unlock(void);
 /* Whether this thread is in the allocator. (process/, leaks/, start/, stream/, interface/reports.c) */

@@ -31,6 +31,7 @@ BESIDES = {
     "heap/allocation.o": {"fputs", "stderr_stream"},
     "interface/odr.o": {"dlsym", "dlvsym", "dlerror"},
     "leaks/leaks.o": {"dl_iterate_phdr"},
+    "process/signals.o": {"__local_ubsan_preinit"},
     "leaks/roots.o": {"dl_iterate_phdr", "_dl_get_tls_static_info"},
     "libc/library.o": {"dl_iterate_phdr", "vsnprintf", "stderr_stream", "optind", "_dl_get_tls_static_info",
                        "_thread_db_sizeof_pthread"},
