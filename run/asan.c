@@ -325,6 +325,8 @@ static void take_variable(struct options *options, const char *variable)
 
 void asan_take(struct options *options)
 {
+    if (options->self != NULL) /* a program has started this run for itself: by default as with AddressSanitizer */
+        give(options, "leaks", "yes");
     if (IS_SANITIZED) /* they are for this program itself */
         return;
     take_variable(options, "ASAN_OPTIONS");

@@ -60,15 +60,15 @@ int main(int count, char **argv) {
 
 
 def check_leaks(suite: Suite, folder: str) -> None:
-    """Leaks alone are not mentioned, unless they are asked for. After a report a line tells how to do that."""
+    """Leaks are reports by default, as with AddressSanitizer, unless they are turned off."""
     write_text(f"{folder}/l.c", LOSES)
     call([CC, "-g", "-w", "l.c", "-o", "l"], cwd=folder, check=True)
-    expect_ran(run_alone(suite, f"{folder}/l"), 0, absent=["asancol"])
-    expect_ran(run_alone(suite, f"{folder}/l", ASAN_OPTIONS="detect_leaks=1"), 99, "Direct leak of 30 byte(s)")
-    summed = "asancol: leaks: 30 bytes in 1 block at 1 place;"
-    expect_ran(run_alone(suite, f"{folder}/l", "more"), 99, f"{summed} --leaks=yes shows them\n")
-    ran = run_alone(suite, f"{folder}/l", "more", ASAN_OPTIONS="check_printf=1")
-    expect_ran(ran, 99, f"{summed} ASAN_OPTIONS=detect_leaks=1 shows them\n")
+    leak = "Direct leak of 30 byte(s) in 1 object(s)"
+    expect_ran(run_alone(suite, f"{folder}/l"), 99, leak)
+    expect_ran(run_alone(suite, f"{folder}/l", "more"), 99, leak)
+    for variable in ("ASAN_OPTIONS", "LSAN_OPTIONS"):
+        expect_ran(run_alone(suite, f"{folder}/l", **{variable: "detect_leaks=0"}), 0, absent=["asancol", "leak"])
+    expect_ran(run_alone(suite, f"{folder}/l", LSAN_OPTIONS="exitcode=23"), 23, leak)
 
 
 PROGRAM = """
