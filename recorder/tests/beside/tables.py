@@ -60,8 +60,6 @@ KNOWN: List[Row] = [
         "AddressSanitizer fills a new block with bytes that are no end of a format; here its first byte is one"),
     Row("compiler-rt", "Linux/stack-trace-dlclose.cpp",
         "AddressSanitizer loses the lines of a library that was closed"),
-    Row("compiler-rt", "Posix/coverage.cpp",
-        "for its coverage Clang links the runtime of UBSan, which takes the signal"),
     Row("compiler-rt", "Posix/ioctl.cpp", "a bug, which AddressSanitizer looks for with handle_ioctl=1"),
     Row("compiler-rt", "Posix/new_array_cookie_uaf_test.cpp",
         "AddressSanitizer ends in a check before it has named the free"),
