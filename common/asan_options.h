@@ -34,7 +34,8 @@ struct asan_word {
     size_t name_length, value_length;
     enum asan_option option;
     enum asan_fate fate;
-    bool is_fixed_value; /* the value is that which holds here */
+    const char *usual;   /* the value in its row */
+    bool is_fixed_value; /* the value is that one */
 };
 
 static inline bool asan_is_between(char byte)
@@ -69,6 +70,7 @@ static inline void asan_look_up(struct asan_word *word)
     int number = 0;
     word->option = ASAN_UNKNOWN;
     word->fate = ASAN_IS_UNKNOWN;
+    word->usual = "";
     word->is_fixed_value = false;
     for (const char *fate = rows; *fate != 0; number++) {
         const char *name = fate + strlen(fate) + 1, *value = name + strlen(name) + 1;
@@ -77,6 +79,7 @@ static inline void asan_look_up(struct asan_word *word)
             bool is_yes = strcmp(value, "1") == 0 && asan_is_yes(word);
             word->option = (enum asan_option)number;
             word->fate = (enum asan_fate)*fate;
+            word->usual = value;
             word->is_fixed_value = is_no || is_yes || asan_is_word(word, value);
             return;
         }
@@ -119,6 +122,43 @@ static inline bool asan_number(const struct asan_word *word, uint64_t *number)
         *number = *number > (UINT64_MAX - digit) / 10 ? UINT64_MAX : *number * 10 + digit;
     }
     return word->value_length > 0;
+}
+
+/* Whether it turns checks off that are on by default. */
+static inline bool asan_turns_off(const struct asan_word *word)
+{
+    uint64_t number;
+    if ((word->fate != ASAN_IS_RUN && word->fate != ASAN_IS_PROCESS) || *word->usual == 0)
+        return false;
+    if (*word->usual == '0')
+        return asan_is_yes(word);
+    if (*word->usual == '1')
+        return asan_is_no(word);
+    return asan_number(word, &number) && number < (uint64_t)(*word->usual - '0');
+}
+
+/* What `help` prints. The remarks are as the page has them. */
+static const char asan_help_page[] = "Available flags for AddressSanitizer:\n"
+#define ASAN_HELP_RUN(name, here) "\t" name "\n\t\t- " here "\n"
+#define ASAN_HELP_PROCESS(name, here) ASAN_HELP_RUN(name, here)
+#define ASAN_HELP_FIXED(name, here) ""
+#define ASAN_HELP_HARMLESS(name, here) ""
+#define OPTION(name, fate, value, here) ASAN_HELP_##fate(#name, here)
+#include "common/asan_options.def"
+#undef OPTION
+    ;
+
+/* Makes the text of it, without quotes and links. Returns its length. */
+static inline size_t asan_help(char text[sizeof asan_help_page])
+{
+    size_t length = 0;
+    for (const char *at = asan_help_page; *at != 0; at++) {
+        if (at[0] == ']' && at[1] == '(')
+            at = strchr(at, ')');
+        else if (*at != '`' && (at[0] != '[' || at[1] == ']'))
+            text[length++] = *at;
+    }
+    return length;
 }
 
 /* How many bytes of freed blocks a word says. False: it says that of none. */

@@ -208,7 +208,11 @@ struct side_progress {
                             again: that stays in later segments; 0: it never has */
 };
 
-/* Checks that were turned off: these are added. */
+/* Before the options of AddressSanitizer that turned checks off, among the lines of unchecked code; and then comes the
+   variable or the function that gave them. */
+#define CHECKS_TURNED_OFF "checks turned off by "
+
+/* Other checks that were turned off: these are added. */
 enum side_skipped {
     SKIPPED_FAMILIES = 1, /* by which family of functions a block was freed: ASANCOL_MISMATCHES is 0 */
     SKIPPED_RETURNS = 2,  /* functions asked for frames by which uses after return are found, and
@@ -217,6 +221,8 @@ enum side_skipped {
     SKIPPED_FRAMES = 8,   /* an access from another stack that met a frame in a block */
     SKIPPED_SPARE = 16,   /* what a handler has allocated that had interrupted the allocator */
     SKIPPED_BEYOND = 32,  /* accesses to memory whose addresses no trace has */
+    SKIPPED_ODR = 64,     /* globals that are defined twice: ASANCOL_ODR is less than 2 */
+    SKIPPED_NULL = 128,   /* requests for more memory than there is: ASANCOL_MAY_RETURN_NULL is 1 */
 };
 
 /* Whether it has ended itself by `halt`, at a report; and then whether it has printed that, or left that to the run,

@@ -33,7 +33,8 @@ enum { MARK_SHORT_PROGRAM = 40 };
    the process is to print its own.
 
    A program that started its own run tells with which status it ends, as of waitpid, in a second line. Once the verdict
-   is printed it gets the status of the run in digits, or another text if its own applies. */
+   is printed it gets the status of the run in digits, or another text if its own applies. It connects at its start,
+   with the word alone, since it may be unable to later. */
 #define ASK_SETTINGS "settings"
 #define ASK_UNSEEN "unseen"
 #define ASK_STATUS "status"

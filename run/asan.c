@@ -3,6 +3,7 @@
 #define _GNU_SOURCE
 #include "asan.h"
 
+#include <errno.h>
 #include <inttypes.h>
 #include <stdio.h>
 #include <stdlib.h>
@@ -120,7 +121,8 @@ static enum done take_symbolizer(const char *path)
     return TAKEN;
 }
 
-/* Makes the folders that are missing above a file, as AddressSanitizer does. Whether a file can be made there. */
+/* Makes the folders that are missing above a file, as AddressSanitizer does. Whether a file can be made there; errno
+   says why not. */
 static bool make_folders_above(const char *path)
 {
     char *above = must(strdup(path)), *last = strrchr(above, '/');
@@ -135,9 +137,13 @@ static bool make_folders_above(const char *path)
     }
     last[last == above] = 0;
     bool is_good = access(above, W_OK | X_OK) == 0;
+    int why = errno;
     free(above);
+    errno = why;
     return is_good;
 }
+
+static int log_error; /* why no file of the last log_path can be made */
 
 static enum done take_log(struct options *options, const char *path)
 {
@@ -145,8 +151,10 @@ static enum done take_log(struct options *options, const char *path)
         return HARMLESS;
     if (strcmp(path, "stdout") == 0)
         return give(options, "log-file", "/dev/stdout");
-    if (!make_folders_above(path))
+    if (!make_folders_above(path)) {
+        log_error = errno;
         return WITHOUT_EFFECT;
+    }
     enum done done = give(options, "log-path", escaped(path));
     if (done == TAKEN)
         strings_add(&options->report, "--log-alone");
@@ -170,19 +178,12 @@ static const char *const meant[] = {
 #undef OPTION
 };
 
-/* Prints the names of the options that are taken, as AddressSanitizer does: at the start, one a line. */
+/* The processes print it. */
 static enum done take_help(const struct asan_word *word)
 {
-    if (!asan_is_yes(word))
-        return asan_is_no(word) ? HARMLESS : WITHOUT_EFFECT;
-    fputs("asancol: ASAN_OPTIONS and LSAN_OPTIONS can have these options, which docs/ASAN.md explains:\n", stderr);
-    for (size_t i = 0; i < sizeof meant / sizeof *meant; i++) {
-        struct asan_word option = {.name = meant[i], .value = "", .name_length = strlen(meant[i])};
-        asan_look_up(&option);
-        if (option.fate == ASAN_IS_RUN || option.fate == ASAN_IS_PROCESS)
-            fprintf(stderr, "\t%s\n", meant[i]);
-    }
-    return TAKEN;
+    if (asan_is_no(word))
+        return HARMLESS;
+    return asan_is_yes(word) ? TAKEN : WITHOUT_EFFECT;
 }
 
 /* Gives our own option for it its value. */
@@ -223,10 +224,6 @@ static enum done note_for_processes(struct options *options, const struct asan_w
         options->may_halt = asan_is_yes(word);
     if (word->option == ASAN_abort_on_error)
         options->may_halt |= asan_is_yes(word);
-    if (word->option == ASAN_alloc_dealloc_mismatch || word->option == ASAN_new_delete_type_mismatch)
-        options->allows_mismatches |= asan_is_no(word);
-    if (word->option == ASAN_detect_stack_use_after_return)
-        options->allows_returns = asan_is_no(word);
     return TAKEN;
 }
 
@@ -264,13 +261,14 @@ static const char *meant_by(const struct asan_word *word)
 /* In parentheses, which name was meant, or why the word has no effect if that does not go without saying. */
 static const char *remark_on(const struct asan_word *word, enum done done)
 {
-    static char text[DISTANCE_ROOM + sizeof " (is  meant?)"]; /* until the next word */
+    static char text[DISTANCE_ROOM + 64]; /* until the next word */
     const char *nearest = done == UNKNOWN ? meant_by(word) : NULL;
     if (done == WITHOUT_EFFECT && word->option == ASAN_suppressions)
         return " (not a readable file)";
-    if (nearest == NULL)
+    bool is_log = done == WITHOUT_EFFECT && word->option == ASAN_log_path;
+    if (!is_log && nearest == NULL)
         return "";
-    snprintf(text, sizeof text, " (is %s meant?)", nearest);
+    snprintf(text, sizeof text, is_log ? " (%s)" : " (is %s meant?)", is_log ? strerror(log_error) : nearest);
     return text;
 }
 

@@ -160,6 +160,21 @@ static void say_awaited(size_t count)
         say("asancol: %zu processes whose parents waited for them crashed or halted; --crashes shows them", count);
 }
 
+/* Why nothing may have been recorded. A shell ends with the status of its last program, from which the signal follows
+   that has ended that. */
+static const char *nothing_text(const struct run_end *end)
+{
+    static char text[160]; /* there is one run */
+    int status = WIFEXITED(end->status) ? WEXITSTATUS(end->status) : 0;
+    int signal = WIFSIGNALED(end->status) ? WTERMSIG(end->status) : status - 128;
+    const char *front = status == 0 ? "the command was" : "a program of the command was";
+    if (end->has_timed_out || signal <= 0 || !verdict_is_crash((unsigned)signal))
+        return "NOTHING WAS RECORDED: was a program built with asancol-cc?";
+    snprintf(text, sizeof text, "NOTHING WAS RECORDED: %s ended by %s before a recording began, or not built with "
+             "asancol-cc", front, signal_name(signal));
+    return text;
+}
+
 /* What holds of the run, and not of one process. */
 static struct strings troubles_of(const struct run_end *end)
 {
@@ -170,7 +185,7 @@ static struct strings troubles_of(const struct run_end *end)
     snprintf(lost, sizeof lost, "INCOMPLETE: %" PRIu64 " run%s inside this one left no result", end->lost,
              plural(end->lost, "s"));
     if (end->nothing)
-        strings_add(&lines, "NOTHING WAS RECORDED: was a program built with asancol-cc?");
+        strings_add(&lines, nothing_text(end));
     else if (end->missing > 0)
         strings_add(&lines, missing);
     if (end->is_running)
@@ -251,7 +266,8 @@ static enum report_answer conclude(const struct options *options, const struct s
     lines_say(options->quiet, options->crashes);
     for (size_t i = 0; i < end->troubles.count; i++)
         say("asancol: %s", end->troubles.items[i]);
-    bool is_listed = options->unchecked != UNCHECKED_NO && unchecked_count() > 0;
+    bool is_listed = (options->unchecked == UNCHECKED_LIST && unchecked_is_news())
+                     || (options->unchecked == UNCHECKED_ERROR && unchecked_count() > 0);
     if (!options->quiet || is_incomplete || is_listed || answer == ANSWER_NONE || answer == ANSWER_ARGUMENTS)
         say_summary(sum, is_incomplete, options->unchecked != UNCHECKED_NO);
     if (sum->awaited > 0 && (!options->quiet || is_incomplete))
@@ -377,8 +393,7 @@ int main(int count, char **argv)
     (void)count;
     fill_standard();
     struct options options = options_read(argv);
-    verdict_begin(options.leaks == LEAKS_YES, !options.no_mismatches && !options.allows_mismatches,
-                  !options.allows_returns);
+    verdict_begin(options.leaks == LEAKS_YES, !options.no_mismatches);
     if (options.are_files) {
         checkers_begin(&options);
         return check_files(&options);

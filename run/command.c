@@ -129,14 +129,26 @@ static _Noreturn void become(const struct options *options, const char *hub, cha
     if (slack != 0)
         prctl(PR_SET_TIMERSLACK, slack, 0, 0, 0);
     signals_restore();
-    execvpe(options->command[0], options->command, environment);
+    if (options->self != NULL)
+        execve(options->self, options->command, environment);
+    else
+        execvpe(options->command[0], options->command, environment);
     *error = errno;
     _exit(OWN_FAILURE);
+}
+
+/* A program whose file has no name has kept it open for us. */
+static void hide_own_file(const struct options *options)
+{
+    static const char folder[] = "/proc/self/fd/";
+    if (options->self != NULL && begins_with(options->self, folder))
+        fcntl(atoi(options->self + strlen(folder)), F_SETFD, FD_CLOEXEC);
 }
 
 pid_t command_start(const struct options *options, const char *hub, int *status)
 {
     char **environment = environment_for(options, hub);
+    hide_own_file(options);
     note_settings(environment);
     if (options->served != 0) {
         serving_begin((pid_t)options->served, environment, marked_slack(hub));

@@ -303,7 +303,10 @@ static double until_due(double seconds, bool is_short)
 }
 
 /* The polled descriptors of a turn: the same few, however many processes there are. */
-enum { SIGNALS, FIRST, SECOND, REPORT, HELD, ARRIVALS, SERVED, ASKING, MOST_POLLS = ASKING + ASKING_POLLS };
+enum {
+    SIGNALS, FIRST, SECOND, REPORT, HELD, ARRIVALS, SERVED, SERVED_ASKS, ASKING,
+    MOST_POLLS = ASKING + ASKING_POLLS
+};
 
 /* poll refuses more entries than a process may have descriptors, and counts those that it passes over. */
 static int poll_used(struct pollfd *polls, size_t count, int timeout)
@@ -340,6 +343,7 @@ static void wait_once(double seconds)
     polls[REPORT] = report_poll();
     polls[HELD] = held_poll();
     polls[SERVED] = serving_poll();
+    polls[SERVED_ASKS] = serving_asking_poll();
     polls[ARRIVALS] = is_short ? (struct pollfd){-1, 0, 0} : arrivals_poll();
     seconds = until_due(seconds, is_short);
     seconds = asking_polls(polls + ASKING, seconds);

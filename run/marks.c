@@ -127,6 +127,13 @@ void marks_take_word(pid_t number, char *text)
     take_unseen(&mark);
 }
 
+/* Whether others have ended a process that had not begun: it has raised no signal itself, unless by a fault, or by a
+   limit on files that the recorder came to. */
+static bool is_of_others(int signal)
+{
+    return !verdict_is_crash((unsigned)signal) && signal != SIGXFSZ;
+}
+
 /* Whether a process is the one of the mark: it has connected since that was made, or has left a word that says more.
    Its number may have been another one's before. */
 static bool is_of(const struct mark *mark, const struct process *process)
@@ -176,7 +183,7 @@ static void take_expected(struct mark *mark)
         snprintf(how, sizeof how, "%s with status %d", joint, WEXITSTATUS(status));
     strncat(mark->why, how, sizeof mark->why - strlen(mark->why) - 1);
     take_unseen(mark);
-    if (*joint == ',' && death == DEATH_SEEN && WIFSIGNALED(status) && verdict_is_of_others(WTERMSIG(status)))
+    if (*joint == ',' && death == DEATH_SEEN && WIFSIGNALED(status) && is_of_others(WTERMSIG(status)))
         explain(word_of(mark->number), UP_TO_THERE, mark->why);
 }
 
@@ -232,7 +239,7 @@ static void take_killed(struct mark *mark)
         return;
     if (death_of(mark->number, &status) == DEATH_UNSEEN)
         death_note_of_parent(mark->number, number);
-    if (!verdict_is_of_others(number) || has_come(mark))
+    if (!is_of_others(number) || has_come(mark))
         return;
     struct process *word = word_of(mark->number);
     if (word != NULL) {
@@ -256,7 +263,7 @@ static int killed_by(pid_t child)
     int status;
     const struct mark mark = {.number = child};
     bool is_killed = death_of(child, &status) == DEATH_SEEN && WIFSIGNALED(status)
-                     && verdict_is_of_others(WTERMSIG(status)) && !has_come(&mark);
+                     && is_of_others(WTERMSIG(status)) && !has_come(&mark);
     return is_killed ? WTERMSIG(status) : 0;
 }
 

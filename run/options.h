@@ -38,7 +38,7 @@ struct options {
     bool has_rules;         /* it has to read a file of what counts */
     bool are_files;         /* the arguments of the command are traces */
     /* What ASAN_OPTIONS and LSAN_OPTIONS ask of processes, and lines about them: for the summary, and for --verbose. */
-    bool may_halt, allows_mismatches, allows_returns;
+    bool may_halt;
     struct strings asan_notes, asan_taken;
     bool demands_leaks; /* --leaks=yes was given: that wins */
     bool log_is_alone;  /* the files of --log-path alone have reports, as ASAN_OPTIONS asks for it */

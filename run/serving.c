@@ -18,10 +18,11 @@
 static struct {
     pid_t number; /* 0: the command is a child, as usual */
     int process;  /* a descriptor of it, or -1 */
-    int asked;    /* the connection on which it waits, or -1 */
+    int asking;   /* the connection on which it will ask, or -1 */
+    int asked;    /* the same once it waits there, or -1 */
     int status;   /* with which it ends, once it has asked */
     bool has_asked, is_over;
-} served = {.process = -1, .asked = -1};
+} served = {.process = -1, .asking = -1, .asked = -1};
 
 static bool put(const void *bytes, size_t length)
 {
@@ -60,6 +61,33 @@ struct pollfd serving_poll(void)
     return (struct pollfd){served.is_over || served.has_asked ? -1 : served.process, POLLIN, 0};
 }
 
+struct pollfd serving_asking_poll(void)
+{
+    return (struct pollfd){served.is_over ? -1 : served.asking, POLLIN, 0};
+}
+
+static void take_question(const char *text)
+{
+    served.asked = served.asking;
+    served.asking = -1;
+    served.status = atoi(text);
+    served.has_asked = true;
+}
+
+/* Looks where it asks. The connection may have come to an end, as by an exec. */
+static void look_for_question(void)
+{
+    char text[64];
+    ssize_t length = served.asking >= 0 ? recv(served.asking, text, sizeof text - 1, MSG_DONTWAIT) : -1;
+    if (length > 0) {
+        text[length] = 0;
+        take_question(text);
+    } else if (served.asking >= 0 && (length == 0 || (errno != EAGAIN && errno != EINTR))) {
+        close(served.asking);
+        served.asking = -1;
+    }
+}
+
 /* It may still be there for its parent: that is how the status is known. */
 static bool is_gone(int *status)
 {
@@ -72,9 +100,10 @@ static bool is_gone(int *status)
 
 bool serving_has_ended(int *status)
 {
-    *status = served.status;
     if (served.number == 0 || served.is_over)
         return false;
+    look_for_question();
+    *status = served.status;
     served.is_over = served.has_asked || is_gone(status);
     if (served.is_over && served.has_asked)
         death_note_ending(served.number, *status);
@@ -85,9 +114,11 @@ bool serving_take(pid_t number, const char *text, int connection)
 {
     if (number != served.number || served.has_asked || served.is_over)
         return false;
-    served.asked = connection;
-    served.status = atoi(text);
-    served.has_asked = true;
+    if (served.asking >= 0)
+        close(served.asking);
+    served.asking = connection;
+    if (*text != 0)
+        take_question(text);
     return true;
 }
 

@@ -19,7 +19,10 @@ bool serving_is_on(void);
 struct pollfd serving_poll(void);
 /* Whether it has asked for its status, or is gone: once. The status is as of waitpid, or 0 if nobody knows it. */
 bool serving_has_ended(int *status);
-/* Takes its question, with a connection that is kept. False: another process has sent it. */
+/* Becomes readable where it asks for its status. -1: it has no connection for that, or has asked. */
+struct pollfd serving_asking_poll(void);
+/* Keeps the connection on which it will ask, and its question if that has come already. False: it is another
+   process's. */
 bool serving_take(pid_t number, const char *text, int connection);
 /* Whether it waits for an answer. */
 bool serving_is_asked(void);

@@ -71,6 +71,8 @@ static void take_skipped(uint64_t skipped)
         {SKIPPED_FRAMES, "frames in a block, from another stack"},
         {SKIPPED_SPARE, "blocks from a signal handler that interrupted the allocator"},
         {SKIPPED_BEYOND, "accesses at addresses that no trace has"},
+        {SKIPPED_ODR, "globals defined twice (ASANCOL_ODR is not 2)"},
+        {SKIPPED_NULL, "requests for too much memory (ASANCOL_MAY_RETURN_NULL=1)"},
     };
     for (size_t i = 0; i < sizeof names / sizeof *names; i++)
         if (skipped & names[i].what)
@@ -122,6 +124,14 @@ static size_t count_of(const struct names *names)
 size_t unchecked_count(void)
 {
     return count_of(&unchecked.own);
+}
+
+bool unchecked_is_news(void)
+{
+    size_t told = 0;
+    for (size_t i = 0; i < unchecked.own.count; i++)
+        told += strncmp(unchecked.own.names[i], CHECKS_TURNED_OFF, strlen(CHECKS_TURNED_OFF)) == 0;
+    return unchecked_count() > told;
 }
 
 bool unchecked_is_any(void)

@@ -18,6 +18,9 @@ enum unchecked { UNCHECKED_LIST, UNCHECKED_NO, UNCHECKED_ERROR };
 void unchecked_take(const struct segment *segment);
 /* How many names there are, without those of libraries of the system. */
 size_t unchecked_count(void);
+/* Whether one of them is more than what ASAN_OPTIONS, or a program's own options, have turned off: their user knows of
+   that, so a quiet run does not say it. */
+bool unchecked_is_news(void);
 /* Whether there are any, or libraries of the system. */
 bool unchecked_is_any(void);
 /* The runtime of AddressSanitizer that a process had in it, or null. */

@@ -212,7 +212,8 @@ static bool is_over(struct segment *segment)
     return segment->outcome.was_replaced || death_of(segment->process->peer, &status) != DEATH_NONE;
 }
 
-bool verdict_is_of_others(int number)
+/* Whether other processes end one by this signal. */
+static bool is_of_others(int number)
 {
     return number == SIGKILL || number == SIGTERM || number == SIGINT || number == SIGHUP || number == SIGQUIT;
 }
@@ -222,7 +223,7 @@ static bool is_death_by_others(const struct segment *segment)
 {
     int status;
     return death_of(segment->process->peer, &status) == DEATH_SEEN && WIFSIGNALED(status)
-           && verdict_is_of_others(WTERMSIG(status));
+           && is_of_others(WTERMSIG(status));
 }
 
 /* Whether a call of the recorder's own has ended the process, or a child of vfork before its exec, as where a filter
@@ -245,8 +246,7 @@ static bool has_stopped(struct segment *segment)
     return death != DEATH_NONE && !is_other;
 }
 
-/* Whether the process itself has raised it, by a mistake. */
-static bool is_crash(unsigned number)
+bool verdict_is_crash(unsigned number)
 {
     static const unsigned crashes[] = {SIGSEGV, SIGBUS, SIGILL, SIGFPE, SIGABRT, SIGSYS, SIGTRAP};
     for (size_t i = 0; i < sizeof crashes / sizeof *crashes; i++)
@@ -268,18 +268,17 @@ static bool was_ended_by_others(const struct segment *segment)
     if (segment->side == NULL || segment->outcome.reports + segment->outcome.findings > 0)
         return false;
     if (segment->outcome.ending == ENDING_SIGNAL)
-        return verdict_is_of_others((int)segment->side->signal) && side_progress(segment->side).sender != 0;
+        return is_of_others((int)segment->side->signal) && side_progress(segment->side).sender != 0;
     return is_death_by_others(segment);
 }
 
 static bool leaks_count;
 static uint64_t not_wanted; /* enum side_skipped */
 
-void verdict_begin(bool counts_leaks, bool wants_mismatches, bool wants_returns)
+void verdict_begin(bool counts_leaks, bool wants_mismatches)
 {
     leaks_count = counts_leaks;
-    not_wanted = (uint64_t)(counts_leaks ? 0 : SKIPPED_LEAKS) | (wants_mismatches ? 0 : SKIPPED_FAMILIES)
-                 | (wants_returns ? 0 : SKIPPED_RETURNS);
+    not_wanted = (uint64_t)(counts_leaks ? 0 : SKIPPED_LEAKS) | (wants_mismatches ? 0 : SKIPPED_FAMILIES);
 }
 
 bool verdict_is_clean(const struct segment *segment)
@@ -466,8 +465,8 @@ static void judge(struct segment *segment)
     bool is_unheard = outcome->ending == ENDING_NONE && !(facts & REPLACED);
     if ((row->answer == UP_TO_THERE || row->answer == BEFORE_MAIN) && is_unheard)
         outcome->signal = unheard_signal(segment);
-    outcome->is_crash = is_crash(outcome->signal) && !outcome->has_halted;
-    outcome->is_ignored = is_crash(outcome->signal) && ignores_deaths(segment->process->parent);
+    outcome->is_crash = verdict_is_crash(outcome->signal) && !outcome->has_halted;
+    outcome->is_ignored = verdict_is_crash(outcome->signal) && ignores_deaths(segment->process->parent);
     say_why(segment, row->answer, row->why);
     outcome->is_settled = is_settled(segment, fate, facts);
 }

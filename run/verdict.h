@@ -1,8 +1,8 @@
 /* What came of a process: its end line, and whether it was complete.
 
-   Called: verdict_begin by asancol-run.c, verdict_is_at_end by held.c, verdict_blame_limit by segments.c,
-   verdict_is_of_others by marks.c, signal_name by that and report.c; the rest by checkers.c, which judges; in the one
-   thread of asancol-run; no lock. */
+   Called: verdict_begin and verdict_is_crash by asancol-run.c, the latter also by marks.c, verdict_is_at_end by held.c,
+   verdict_blame_limit by segments.c, signal_name by these and report.c; the rest by checkers.c, which judges; in the
+   one thread of asancol-run; no lock. */
 #ifndef ASANCOL_RUN_VERDICT_H
 #define ASANCOL_RUN_VERDICT_H
 
@@ -12,8 +12,8 @@
 #include "processes.h"
 
 /* Whether leaks are findings as any other, and are not only summed up; and whether a process that does not look for
-   mismatches of functions that allocate and free, or for uses after return, has to be named. */
-void verdict_begin(bool counts_leaks, bool wants_mismatches, bool wants_returns);
+   mismatches of functions that allocate and free has to be named. */
+void verdict_begin(bool counts_leaks, bool wants_mismatches);
 /* Of one with a side memory: whether nothing bad stands there that a report would show; whether anything stands there
    that asancol-report is told, as leaks that are only summed up; and whether it has ended by an exit or an exec. */
 bool verdict_is_clean(const struct segment *segment);
@@ -29,8 +29,8 @@ bool verdict_again(struct segment *segment);
 /* Says of one that is incomplete that it went on after the limit of events. */
 void verdict_blame_limit(struct outcome *outcome);
 
-/* Whether a signal of this number is of another process, and none of a mistake. */
-bool verdict_is_of_others(int number);
+/* Whether a process itself has raised a signal of this number, by a mistake. */
+bool verdict_is_crash(unsigned number);
 /* "SIGTERM", or "signal 40". */
 const char *signal_name(int number);
 

@@ -84,14 +84,18 @@ TARGETS = [
            ["-Dexit=fuzz_exit", "-include", f"{THEIRS}/ends.h", '-DRELEASE="1"']),
 ]
 
+# The parts that have large tables get these from a test.
+TABLES = ("-D_GNU_SOURCE=", "-include", f"{OURS}/tables.h")
+
 # Programs that draw their own inputs.
 DRAWN = [
     Target("walks over stacks",
-           [f"{OURS}/unwinding.c", *(f"{RECORDER}/stacks/{it}.c" for it in ("unwinding", "walks"))], []),
+           [f"{OURS}/unwinding.c", *(f"{RECORDER}/stacks/{it}.c" for it in ("unwinding", "walks"))], [],
+           flags=TABLES),
     Target("walks through functions",
            [f"{OURS}/walks.c", f"{RECORDER}/base/memory.c",
             *(f"{RECORDER}/stacks/{it}.c" for it in ("unwinding", "walks", "cfi"))], [],
-           flags=["-pthread"], sanitizers="undefined"),  # it reads the redzones of frames
+           flags=["-pthread", *TABLES], sanitizers="undefined"),  # it reads the redzones of frames
 ]
 
 # The parts of the stream.
@@ -111,10 +115,11 @@ HEAP = ("arena", "entering", "origin", "spare", "shards", "retiring", "reusing",
 SHARED = [
     Target("heap",
            [f"{OURS}/heap.c", *(f"{RECORDER}/heap/{it}.c" for it in HEAP)], [],
-           flags=["-include", f"{OURS}/heap.h"], races=("thread", SANITIZERS)),
-    Target("stacks", [f"{OURS}/stacks.c", f"{RECORDER}/process/threads.c", f"{RECORDER}/stacks/walks.c"], [],
-           flags=["-DIS_STATIC"]),
-    Target("thread notes", [f"{OURS}/thread_notes.c", f"{RECORDER}/stacks/thread_notes.c"], []),
+           flags=["-include", f"{OURS}/heap.h", *TABLES], races=("thread", SANITIZERS)),
+    Target("stacks", [f"{OURS}/stacks.c",
+            *(f"{RECORDER}/{it}.c" for it in ("process/threads", "process/waiting", "stacks/walks"))], [],
+           flags=["-DIS_STATIC", *TABLES]),
+    Target("thread notes", [f"{OURS}/thread_notes.c", f"{RECORDER}/stacks/thread_notes.c"], [], flags=TABLES),
     Target("stream, and what stands beside it",
            [f"{OURS}/races.c",
             *(f"{RECORDER}/{it}.c" for it in ("base/descriptors", "base/errors", "base/memory", "environment/asking",
@@ -123,7 +128,7 @@ SHARED = [
             *(f"{RECORDER}/stream/{it}.c" for it in (
                 *STREAM, "fault_list", "faults", "findings", "lists", "maps", "modules", "record", "side", "stating",
                 "suspending", "thread_list"))], [],
-           flags=["-D_GNU_SOURCE=", PATIENT, "-iquote", OURS, "-include", f"{OURS}/races.h"]),
+           flags=[PATIENT, "-iquote", OURS, "-include", f"{OURS}/races.h", *TABLES]),
 ]
 
 
@@ -187,7 +192,7 @@ def check_threads(suite: Suite, folder: str, compiler: str) -> None:
     sources += [f"{RECORDER}/base/{part}.c" for part in ("descriptors", "errors")]
     sources += [f"{RECORDER}/stream/{part}.c" for part in STREAM]
     for sanitizers in ("thread", SANITIZERS):
-        target = Target("threads", sources, [], flags=[PATIENT])
+        target = Target("threads", sources, [], flags=[PATIENT, *TABLES])
         run([build(compiler, target, sanitizers, ["-pthread"], folder)], folder)
 
 

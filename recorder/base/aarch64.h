@@ -15,7 +15,7 @@
 
 #define SYSTEM_CALL static inline __attribute__((always_inline))
 
-SYSTEM_CALL long system_call6(long number, long first, long second, long third, long fourth, long fifth, long sixth)
+SYSTEM_CALL long direct_call(long number, long first, long second, long third, long fourth, long fifth, long sixth)
 {
     register long x8 __asm__("x8") = number, x0 __asm__("x0") = first, x1 __asm__("x1") = second;
     register long x2 __asm__("x2") = third, x3 __asm__("x3") = fourth, x4 __asm__("x4") = fifth;
@@ -24,7 +24,7 @@ SYSTEM_CALL long system_call6(long number, long first, long second, long third, 
     return x0;
 }
 
-SYSTEM_CALL long system_call4(long number, long first, long second, long third, long fourth)
+SYSTEM_CALL long direct_call4(long number, long first, long second, long third, long fourth)
 {
     register long x8 __asm__("x8") = number, x0 __asm__("x0") = first, x1 __asm__("x1") = second;
     register long x2 __asm__("x2") = third, x3 __asm__("x3") = fourth;
@@ -32,13 +32,16 @@ SYSTEM_CALL long system_call4(long number, long first, long second, long third, 
     return x0;
 }
 
-SYSTEM_CALL long system_call3(long number, long first, long second, long third)
+SYSTEM_CALL long direct_call3(long number, long first, long second, long third)
 {
     register long x8 __asm__("x8") = number, x0 __asm__("x0") = first, x1 __asm__("x1") = second;
     register long x2 __asm__("x2") = third;
     __asm__ volatile("svc #0" : "+r"(x0) : "r"(x8), "r"(x1), "r"(x2) : "memory", "cc");
     return x0;
 }
+
+/* How a filter of calls knows this processor (AUDIT_ARCH_AARCH64). */
+#define SYSTEM_ARCHITECTURE 0xc00000b7u
 
 /* Memory. */
 
@@ -182,6 +185,9 @@ static inline size_t processor_vectors_size(uintptr_t vectors)
 
 enum { RED_ZONE = 0 };
 
+/* Other threads are not traced. */
+#define CAN_TRACE 0
+
 /* What the C library keeps of a thread comes before the thread pointer, and modules' memory after it. */
 #define LOCAL_START(pointer, local_size, control_size) ((pointer) - (control_size))
 #define LOCAL_END(pointer, local_size, control_size) ((pointer) + 2 * sizeof(uintptr_t) + (local_size))
@@ -219,6 +225,20 @@ static inline bool processor_ends_call(const unsigned char code[LONGEST_CALL])
     __builtin_memcpy(&word, code, sizeof word);
     bool is_relative = (word & 0xfc000000) == 0x94000000, is_by_register = (word & 0xfffffc1f) == 0xd63f0000;
     return is_relative || is_by_register || (word & 0xfefff800) == 0xd63f0800; /* the last checks a signature */
+}
+
+enum { JUMP_CODE = 128 };
+static inline bool processor_jumps(const unsigned char code[JUMP_CODE])
+{
+    bool is_loaded = false;
+    for (unsigned at = 0; at < JUMP_CODE; at += sizeof(uint32_t)) {
+        uint32_t word;
+        __builtin_memcpy(&word, code + at, sizeof word);
+        is_loaded |= (word & 0xfffffc1f) == 0x9100001f;
+        if ((word & 0xfffffc1f) == 0xd61f0000)
+            return is_loaded;
+    }
+    return false;
 }
 
 /* What a handler returns to, which some emulators do not describe: a call of the system. */

@@ -78,7 +78,13 @@ enum { STUBS_ADDRESS_BITS = 48 };
     "\tldp x0, x1, [sp, #16]\n\tldr x2, [sp, #32]\n\tldp x29, x30, [sp], #48\n"                                        \
     "\t.cfi_adjust_cfa_offset -48\n\t.cfi_restore x29\n\t.cfi_restore x30\n"
 #define CALL_WITH_ARGUMENTS(function) KEEP_THREE "\tbl " function "\n" TAKE_THREE
-#define CALL_WITH_STACK(function, pass) KEEP_THREE "\tadd x2, sp, #48\n" pass "\tbl " function "\n" TAKE_THREE
+#define KEEP_ALL                                                                                                       \
+    KEEP_THREE "\tstp x3, x4, [sp, #-48]!\n\t.cfi_adjust_cfa_offset 48\n"                                              \
+               "\tstp x5, x6, [sp, #16]\n\tstr x7, [sp, #32]\n"
+#define TAKE_ALL                                                                                                       \
+    "\tldp x5, x6, [sp, #16]\n\tldr x7, [sp, #32]\n"                                                                   \
+    "\tldp x3, x4, [sp], #48\n\t.cfi_adjust_cfa_offset -48\n" TAKE_THREE
+#define CALL_WITH_STACK(function, pass) KEEP_ALL "\tadd x2, sp, #96\n" pass "\tbl " function "\n" TAKE_ALL
 #define FIRST_IS_SECOND "\tmov x1, x0\n\tmov x0, #0\n"
 #define GO_TO_RESULT(function)                                                                                         \
     KEEP_THREE "\tbl " function "\n\tmov x16, x0\n" TAKE_THREE "\tcbz x16, 1f\n\tbr x16\n1:\tret\n"
@@ -103,6 +109,15 @@ enum { STUBS_ADDRESS_BITS = 48 };
     "\tldp x29, x30, [sp], #160\n"                                                                                     \
     ".cfi_adjust_cfa_offset -160\n.cfi_restore x29\n.cfi_restore x30\n"                                                \
     "\tret\n"
+
+#define GO_WITH_ALL_TO_RESULT(function)                                                                                \
+    "\tstp x29, x30, [sp, #-80]!\n"                                                                                    \
+    "\t.cfi_adjust_cfa_offset 80\n\t.cfi_rel_offset x29, 0\n\t.cfi_rel_offset x30, 8\n"                               \
+    "\tmov x29, sp\n\tstp x0, x1, [sp, #16]\n\tstp x2, x3, [sp, #32]\n\tstp x4, x5, [sp, #48]\n\tstr x6, [sp, #64]\n" \
+    "\tbl " function "\n\tmov x16, x0\n"                                                                              \
+    "\tldp x0, x1, [sp, #16]\n\tldp x2, x3, [sp, #32]\n\tldp x4, x5, [sp, #48]\n\tldr x6, [sp, #64]\n"                \
+    "\tldp x29, x30, [sp], #80\n\t.cfi_adjust_cfa_offset -80\n\t.cfi_restore x29\n\t.cfi_restore x30\n"              \
+    "\tbr x16\n"
 
 #define BEFORE_END_OF_HANDLER "\tnop\n"
 #define END_OF_HANDLER "\tmov x8, #139\n\tsvc #0\n"

@@ -1,15 +1,19 @@
-/* Stateless. An attempt that fails for the process's limit is repeated once under the highest limit allowed, and the
-   limit is restored. */
+/* An attempt that fails for the process's limit is repeated once under the highest limit allowed, and the limit is
+   restored. `kept` has the numbers of those that are kept, each with its identity: the process may close one by a call
+   of the system, and open another file with its number. */
 #define _GNU_SOURCE
 #include "base/descriptors.h"
 
 #include <errno.h>
 #include <fcntl.h>
+#include <limits.h>
+#include <stdatomic.h>
 #include <stdbool.h>
 #include <string.h>
 #include <sys/resource.h>
 #include <sys/un.h>
 
+#include "base/self.h"
 #include "base/system.h"
 
 /* Whether to try again, after an attempt that has made this: once, with the limit as high as it may be. Afterwards it
@@ -56,17 +60,95 @@ int descriptor_of_memory(const char *name, unsigned flags)
     return made;
 }
 
+/* Those that are kept. The number is set last, and taken away first. */
+static struct {
+    _Atomic int number; /* and one more; 0: none */
+    _Atomic dev_t device;
+    _Atomic ino_t node;
+} kept[DESCRIPTORS_KEPT];
+
+/* Past all numbers that the process itself may have, if its own limit alone says which. The system's table of
+   descriptors is to stay small. */
+static int move_past(int descriptor, const struct rlimit *limit)
+{
+    enum { LARGEST = 4096, ROOM = 8 };
+    if (limit->rlim_cur > LARGEST || limit->rlim_cur >= limit->rlim_max)
+        return -1;
+    struct rlimit higher = {limit->rlim_cur + ROOM, limit->rlim_max};
+    if (higher.rlim_cur > higher.rlim_max)
+        higher.rlim_cur = higher.rlim_max;
+    if (system_setrlimit(RLIMIT_NOFILE, &higher) != 0)
+        return -1;
+    int moved = system_fcntl(descriptor, F_DUPFD_CLOEXEC, (int)limit->rlim_cur);
+    system_setrlimit(RLIMIT_NOFILE, limit);
+    return moved;
+}
+
 int descriptor_moved_up(int descriptor)
 {
     struct rlimit limit;
-    int least = 512;
-    if (system_getrlimit(RLIMIT_NOFILE, &limit) == 0 && limit.rlim_cur <= 1024)
-        least = (int)(limit.rlim_cur / 4 * 3);
-    int moved = system_fcntl(descriptor, F_DUPFD_CLOEXEC, least);
+    int least = 512, moved = -1;
+    if (system_getrlimit(RLIMIT_NOFILE, &limit) == 0) {
+        moved = move_past(descriptor, &limit);
+        least = limit.rlim_cur <= 1024 ? (int)(limit.rlim_cur / 4 * 3) : least;
+    }
+    if (moved < 0)
+        moved = system_fcntl(descriptor, F_DUPFD_CLOEXEC, least);
     if (moved < 0)
         return descriptor;
     system_close(descriptor);
     return moved;
+}
+
+int descriptor_past(int descriptor)
+{
+    struct rlimit before = {0};
+    int made;
+    do
+        made = system_fcntl(descriptor, F_DUPFD_CLOEXEC, descriptor + 1);
+    while (tries_again(&before, made == -EINVAL ? -EMFILE : made)); /* EINVAL: the limit is no greater */
+    return made;
+}
+
+void descriptor_keep(enum descriptor_kept which, int descriptor, const struct stat *identity)
+{
+    atomic_store(&kept[which].number, 0);
+    atomic_store(&kept[which].device, identity->st_dev);
+    atomic_store(&kept[which].node, identity->st_ino);
+    atomic_store(&kept[which].number, descriptor + 1);
+}
+
+void descriptor_drop(enum descriptor_kept which)
+{
+    atomic_store(&kept[which].number, 0);
+}
+
+/* In a child of vfork, or in one that is not recorded, they are those of its parent. */
+static bool is_kept(int descriptor, int which)
+{
+    struct stat seen;
+    return recorder_is_own_process() && system_fstat(descriptor, &seen) == 0
+           && seen.st_dev == atomic_load(&kept[which].device) && seen.st_ino == atomic_load(&kept[which].node);
+}
+
+int descriptor_shown(int descriptor)
+{
+    for (int i = 0; i < DESCRIPTORS_KEPT; i++)
+        if (UNLIKELY(descriptor == atomic_load_explicit(&kept[i].number, memory_order_relaxed) - 1) && descriptor >= 0
+            && is_kept(descriptor, i))
+            return -1;
+    return descriptor;
+}
+
+int descriptor_hidden_from(int descriptor)
+{
+    int least = INT_MAX;
+    for (int i = 0; i < DESCRIPTORS_KEPT; i++) {
+        int number = atomic_load_explicit(&kept[i].number, memory_order_relaxed) - 1;
+        if (number >= 0 && number >= descriptor && number < least)
+            least = number;
+    }
+    return least;
 }
 
 /* The descriptor that comes with one byte; -1: none. */

@@ -20,6 +20,7 @@ static uint64_t most_signals(void)
 void undisturbed_begin(struct disturbance *before)
 {
     uint64_t most = most_signals();
+    before->mask = 0; /* a filter may refuse the call */
     system_sigprocmask(SIG_SETMASK, &most, &before->mask);
 }
 

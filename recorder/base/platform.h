@@ -21,7 +21,7 @@
 #define NAMED(label) __asm__(label)
 
 /* Of variables that have a page or more, of which little is touched, or seldom. They lie behind all others (zeros.ld),
-   so that those share few pages: each start and each forked child touches these. */
+   so that those share few pages: each start and each forked child touches these. Larger ones are in base/tables.h. */
 #define AS_TABLE __attribute__((section(".bss.table")))
 
 /* For the compiler alone: earlier writes are in memory here, and later reads are from there. */

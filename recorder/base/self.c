@@ -15,7 +15,8 @@ extern const char asancol_checks __attribute__((weak));
 
 bool recorder_is_own_process(void)
 {
-    return system_getpid() == atomic_load_explicit(&process, memory_order_relaxed);
+    pid_t now = system_getpid(); /* below zero where a filter refuses the question: then it makes no child either */
+    return now < 0 || now == atomic_load_explicit(&process, memory_order_relaxed);
 }
 
 void self_note_process(void)

@@ -82,6 +82,11 @@ SYSTEM_CALL ssize_t system_readlink(const char *path, char *to, size_t size)
 #endif
 }
 
+SYSTEM_CALL ssize_t system_readlinkat(int folder, const char *path, char *to, size_t size)
+{
+    return system_call4(SYS_readlinkat, folder, (long)path, (long)to, (long)size);
+}
+
 SYSTEM_CALL int system_rename(const char *from, const char *to)
 {
 #ifdef SYS_rename
@@ -181,6 +186,13 @@ SYSTEM_CALL ssize_t system_send(int descriptor, const void *from, size_t size, i
     return system_call6(SYS_sendto, descriptor, (long)from, (long)size, flags, 0, 0);
 }
 
+/* Sends without a signal and without waiting for room; or writes, where a filter of the process allows only that. */
+SYSTEM_CALL ssize_t system_send_anyhow(int descriptor, const void *from, size_t size)
+{
+    ssize_t sent = system_send(descriptor, from, size, MSG_NOSIGNAL | MSG_DONTWAIT);
+    return sent == -EPERM || sent == -EACCES || sent == -ENOSYS ? system_write(descriptor, from, size) : sent;
+}
+
 SYSTEM_CALL ssize_t system_sendmsg(int descriptor, const struct msghdr *message, int flags)
 {
     return system_call3(SYS_sendmsg, descriptor, (long)message, flags);
@@ -275,6 +287,11 @@ SYSTEM_CALL pid_t system_setsid(void)
     return (pid_t)system_call3(SYS_setsid, 0, 0, 0);
 }
 
+SYSTEM_CALL int system_msync(const volatile void *address, size_t size, int flags)
+{
+    return (int)system_call3(SYS_msync, (long)address, (long)size, flags);
+}
+
 SYSTEM_CALL int system_getrlimit(int resource, struct rlimit *limit)
 {
     return (int)system_call4(SYS_prlimit64, 0, resource, 0, (long)limit);
@@ -309,7 +326,7 @@ SYSTEM_CALL int system_futex(_Atomic uint32_t *word, int operation, uint32_t val
 _Noreturn SYSTEM_CALL void system_exit(int status)
 {
     for (;;)
-        system_call3(SYS_exit_group, status, 0, 0);
+        direct_call3(SYS_exit_group, status, 0, 0);
 }
 
 /* Signals. */
@@ -320,6 +337,11 @@ enum { SIGNAL_SET_BYTES = 8 };
 SYSTEM_CALL uint64_t signal_bit(int number)
 {
     return (uint64_t)1 << (number - 1);
+}
+
+SYSTEM_CALL int system_sigpending(uint64_t *set)
+{
+    return (int)system_call3(SYS_rt_sigpending, (long)set, SIGNAL_SET_BYTES, 0);
 }
 
 SYSTEM_CALL int system_sigprocmask(int how, const uint64_t *set, uint64_t *before)

@@ -13,7 +13,7 @@
 
 #define SYSTEM_CALL static inline __attribute__((always_inline))
 
-SYSTEM_CALL long system_call6(long number, long first, long second, long third, long fourth, long fifth, long sixth)
+SYSTEM_CALL long direct_call(long number, long first, long second, long third, long fourth, long fifth, long sixth)
 {
     register long r10 __asm__("r10") = fourth, r8 __asm__("r8") = fifth, r9 __asm__("r9") = sixth;
     long result;
@@ -24,7 +24,7 @@ SYSTEM_CALL long system_call6(long number, long first, long second, long third, 
     return result;
 }
 
-SYSTEM_CALL long system_call4(long number, long first, long second, long third, long fourth)
+SYSTEM_CALL long direct_call4(long number, long first, long second, long third, long fourth)
 {
     register long r10 __asm__("r10") = fourth;
     long result;
@@ -35,7 +35,7 @@ SYSTEM_CALL long system_call4(long number, long first, long second, long third, 
     return result;
 }
 
-SYSTEM_CALL long system_call3(long number, long first, long second, long third)
+SYSTEM_CALL long direct_call3(long number, long first, long second, long third)
 {
     long result;
     __asm__ volatile("syscall"
@@ -44,6 +44,9 @@ SYSTEM_CALL long system_call3(long number, long first, long second, long third)
                      : "rcx", "r11", "memory");
     return result;
 }
+
+/* How a filter of calls knows this processor (AUDIT_ARCH_X86_64). */
+#define SYSTEM_ARCHITECTURE 0xc000003eu
 
 /* Memory. */
 
@@ -149,6 +152,40 @@ static inline size_t processor_vectors_size(uintptr_t vectors)
     return size;
 }
 
+/* The same for a traced thread, from its registers. Its vectors get the number that says their form, and their size. */
+#define CAN_TRACE 1
+#ifdef _GNU_SOURCE
+#include <sys/user.h>
+#include <ucontext.h>
+
+static inline void processor_context(ucontext_t *context, const struct user_regs_struct *from,
+                                     unsigned char *vectors, size_t size)
+{
+    const uint32_t form[2] = {0x46505853, (uint32_t)size};
+    *context = (ucontext_t){.uc_mcontext.gregs = {
+        [REG_R8] = (greg_t)from->r8, [REG_R9] = (greg_t)from->r9, [REG_R10] = (greg_t)from->r10,
+        [REG_R11] = (greg_t)from->r11, [REG_R12] = (greg_t)from->r12, [REG_R13] = (greg_t)from->r13,
+        [REG_R14] = (greg_t)from->r14, [REG_R15] = (greg_t)from->r15, [REG_RDI] = (greg_t)from->rdi,
+        [REG_RSI] = (greg_t)from->rsi, [REG_RBP] = (greg_t)from->rbp, [REG_RBX] = (greg_t)from->rbx,
+        [REG_RDX] = (greg_t)from->rdx, [REG_RAX] = (greg_t)from->rax, [REG_RCX] = (greg_t)from->rcx,
+        [REG_RSP] = (greg_t)from->rsp, [REG_RIP] = (greg_t)from->rip}};
+    context->uc_mcontext.fpregs = (fpregset_t)vectors;
+    if (vectors != NULL)
+        __builtin_memcpy(vectors + 464, form, sizeof form);
+}
+
+/* Whether a call other than close has answered EINTR. Then the system repeats it, unless a handler comes first. */
+static inline bool processor_repeats_call(struct user_regs_struct *registers)
+{
+    enum { INTERRUPTED = -4, REPEAT_WITHOUT_HANDLER = -514, CLOSE = 3 };
+    bool repeats = (long)registers->orig_rax >= 0 && (long)registers->orig_rax != CLOSE
+                   && (long)registers->rax == INTERRUPTED;
+    if (repeats)
+        registers->rax = (uint64_t)(long)REPEAT_WITHOUT_HANDLER;
+    return repeats;
+}
+#endif
+
 /* The bytes below the stack pointer that a leaf function may use. */
 enum { RED_ZONE = 128 };
 
@@ -208,6 +245,21 @@ static inline bool processor_ends_call(const unsigned char code[LONGEST_CALL])
         const unsigned char *at = code + LONGEST_CALL - length;
         if (at[0] == OTHER_CALLS && (at[1] >> 3 & 7) == IS_CALL && length == length_of(at, length))
             return true;
+    }
+    return false;
+}
+
+/* Whether code jumps by itself, as for __builtin_longjmp: it loads the stack pointer, and goes to a register soon. */
+enum { JUMP_CODE = 128 };
+static inline bool processor_jumps(const unsigned char code[JUMP_CODE])
+{
+    enum { OF_WORDS = 0x48, LOAD = 0x8b, TO_REGISTER = 0x38, TO_STACK = 0x20, OTHER = 0xff, TO_ANY = 0xe0, NEAR = 16 };
+    for (unsigned at = 0; at + NEAR < JUMP_CODE; at++) {
+        if ((code[at] & ~1) != OF_WORDS || code[at + 1] != LOAD || (code[at + 2] & TO_REGISTER) != TO_STACK)
+            continue;
+        for (unsigned next = at + 3; next < at + NEAR; next++)
+            if (code[next] == OTHER && (code[next + 1] & ~7) == TO_ANY)
+                return true;
     }
     return false;
 }

@@ -75,13 +75,15 @@ enum { STUBS_SHADOW_START = 0x7fff8000, STUBS_ADDRESS_BITS = 47 };
     "\tleaq __ehdr_start(%rip), %r10\n\tsubq %r10, %r11\n\tcmpq " size "(%rip), %r11\n\tjb " label "\n"
 
 /* Calls a function of C with the three arguments that the stub has; in the second form with the first two, or by
-   FIRST_IS_SECOND with none and the first, and the stack pointer of the caller. */
+   FIRST_IS_SECOND with none and the first, and the stack pointer of the caller; any number of arguments may follow. */
 #define KEEP(name) "\tpushq %" name "\n\t.cfi_adjust_cfa_offset 8\n"
 #define TAKE_BACK(name) "\tpopq %" name "\n\t.cfi_adjust_cfa_offset -8\n"
 #define KEEP_THREE KEEP("rdi") KEEP("rsi") KEEP("rdx")
 #define TAKE_THREE TAKE_BACK("rdx") TAKE_BACK("rsi") TAKE_BACK("rdi")
 #define CALL_WITH_ARGUMENTS(function) KEEP_THREE "\tcall " function "\n" TAKE_THREE
-#define CALL_WITH_STACK(function, pass) KEEP_THREE "\tleaq 32(%rsp), %rdx\n" pass "\tcall " function "\n" TAKE_THREE
+#define KEEP_ALL KEEP_THREE KEEP("rcx") KEEP("r8") KEEP("r9") KEEP("rax")
+#define TAKE_ALL TAKE_BACK("rax") TAKE_BACK("r9") TAKE_BACK("r8") TAKE_BACK("rcx") TAKE_THREE
+#define CALL_WITH_STACK(function, pass) KEEP_ALL "\tleaq 64(%rsp), %rdx\n" pass "\tcall " function "\n" TAKE_ALL
 #define FIRST_IS_SECOND "\tmovq %rdi, %rsi\n\txorl %edi, %edi\n"
 /* And goes to its result, or returns if that is null; or returns its result, or goes to the second word of it if the
    first is null. */
@@ -115,6 +117,37 @@ enum { STUBS_SHADOW_START = 0x7fff8000, STUBS_ADDRESS_BITS = 47 };
     "\tleave\n"                                                                                                        \
     ".cfi_def_cfa 7, 8\n"                                                                                              \
     "\tret\n"
+
+/* Goes to what a function of C answers, which gets the first ones of seven arguments. */
+#define GO_WITH_ALL_TO_RESULT(function)                                                                                \
+    KEEP("rdi") KEEP("rsi") KEEP("rdx") KEEP("rcx") KEEP("r8") KEEP("r9")                                              \
+    "\tsubq $8, %rsp\n"                                                                                                \
+    "\t.cfi_adjust_cfa_offset 8\n"                                                                                     \
+    "\tcall " function "\n"                                                                                            \
+    "\tmovq %rax, %r11\n"                                                                                              \
+    "\taddq $8, %rsp\n"                                                                                                \
+    "\t.cfi_adjust_cfa_offset -8\n"                                                                                    \
+    TAKE_BACK("r9") TAKE_BACK("r8") TAKE_BACK("rcx") TAKE_BACK("rdx") TAKE_BACK("rsi") TAKE_BACK("rdi")                \
+    "\tjmp *%r11\n"
+
+/* Makes a process with this one's memory and this stack (CLONE_VM, _FS, _FILES, _VFORK, _UNTRACED), which calls a
+   function and ends. Returns its number, or an error. */
+#define CALL_IN_HELPER(function)                                                                                       \
+    "\tmovl $56, %eax\n"                                                                                               \
+    "\tmovl $0x00804700, %edi\n"                                                                                       \
+    "\txorl %esi, %esi\n"                                                                                              \
+    "\txorl %edx, %edx\n"                                                                                              \
+    "\txorl %r10d, %r10d\n"                                                                                            \
+    "\txorl %r8d, %r8d\n"                                                                                              \
+    "\tsyscall\n"                                                                                                      \
+    "\ttestq %rax, %rax\n"                                                                                             \
+    "\tjne 1f\n"                                                                                                       \
+    "\tsubq $8, %rsp\n"                                                                                                \
+    "\tcall " function "\n"                                                                                            \
+    "\tmovl $60, %eax\n"                                                                                               \
+    "\txorl %edi, %edi\n"                                                                                              \
+    "\tsyscall\n"                                                                                                      \
+    "1:\tret\n"
 
 /* The end of a handler. Debuggers and unwinders know it by these bytes, and look at the one before. */
 #define BEFORE_END_OF_HANDLER "\tnop\n"

@@ -1,4 +1,5 @@
-/* The ways out of a process, most of them without its exit handlers, and those into another program.
+/* The ways out of a process, most of them without its exit handlers, and those into another program or a child; also by
+   the program's own calls of the system.
 
    Called: by the program, in any thread, also in a handler and in a child of vfork. So nothing is allocated, and what
    an exec is given as a list lies on the stack. Lock: none is held or taken here, but a handler may have interrupted
@@ -8,8 +9,11 @@
 #define _GNU_SOURCE
 #include <errno.h>
 #include <fcntl.h>
+#include <linux/sched.h>
+#include <linux/seccomp.h>
 #include <stdarg.h>
 #include <stdlib.h>
+#include <sys/prctl.h>
 #include <sys/stat.h>
 #include <unistd.h>
 
@@ -19,10 +23,14 @@
 REAL(_Noreturn void, exit, (int));
 REAL(_Noreturn void, _exit, (int));
 REAL(_Noreturn void, _Exit, (int));
+REAL(_Noreturn void, quick_exit, (int));
 REAL(_Noreturn void, abort, (void));
 REAL(_Noreturn void, __assert_fail, (const char *, const char *, unsigned, const char *));
 REAL(int, daemon, (int, int));
 REAL(pid_t, fork, (void));
+REAL(pid_t, _Fork, (void));
+REAL(int, clone, (int (*)(void *), void *, int, void *, ...));
+REAL(long, syscall, (long, ...));
 REAL(int, execve, (const char *, char *const *, char *const *));
 REAL(int, execv, (const char *, char *const *));
 REAL(int, execvpe, (const char *, char *const *, char *const *));
@@ -47,6 +55,13 @@ GUARD_OWN(_Exit);
 CHECK _Noreturn void checked__Exit(int status)
 {
     real__Exit(ask_finish(status));
+}
+
+GUARD_OWN(quick_exit);
+CHECK _Noreturn void checked_quick_exit(int status)
+{
+    note_quick_exit(status);
+    real_quick_exit(status);
 }
 
 GUARD_OWN(abort);
@@ -127,6 +142,67 @@ TOP_ASM(".pushsection .text\n"
         "\t.cfi_endproc\n"
         ".size checked_vfork, .-checked_vfork\n"
         ".popsection\n");
+
+/* Forks of which the C library knows nothing. */
+
+static void end_fork(long child)
+{
+    if (child == 0) {
+        note_child_begins();
+        return;
+    }
+    note_fork_ends();
+    if (child > 0)
+        note_child_forked((int)child);
+}
+
+GUARD_OWN(_Fork);
+CHECK pid_t checked__Fork(void)
+{
+    IS_OWN_FRAME;
+    note_fork_begins();
+    pid_t child = real__Fork();
+    end_fork(child);
+    return child;
+}
+
+/* Whether the child gets all that this process has as a copy, and goes on with the same thread. */
+static bool copies_process(uint64_t flags)
+{
+    return (flags & (CLONE_VM | CLONE_FILES | CLONE_SETTLS)) == 0;
+}
+
+/* What the child of clone is to do. */
+struct beginning {
+    int (*function)(void *);
+    void *argument;
+};
+
+/* The C library ends the process with the answer, in silence. */
+static int begin_child(void *with)
+{
+    IS_OWN_FRAME;
+    const struct beginning *it = with;
+    note_child_begins();
+    return ask_finish(it->function(it->argument));
+}
+
+GUARD_OWN(clone);
+CHECK int checked_clone(int (*function)(void *), void *stack, int flags, void *argument, ...)
+{
+    IS_OWN_FRAME;
+    va_list rest;
+    va_start(rest, argument);
+    void *parent_number = va_arg(rest, void *), *tls = va_arg(rest, void *), *number = va_arg(rest, void *);
+    va_end(rest);
+    if (function == NULL || stack == NULL || !copies_process((unsigned)flags))
+        return real_clone(function, stack, flags, argument, parent_number, tls, number);
+    struct beginning beginning = {function, argument};
+    note_fork_begins();
+    int child = real_clone(begin_child, stack, flags, &beginning, parent_number, tls, number);
+    end_fork(child);
+    return child;
+}
 
 /* What the process has to take back if an exec fails. */
 struct leaving {
@@ -238,3 +314,74 @@ CHECK int checked_execle(const char *path, const char *first, ...)
 {
     WITH_ARGV(first, run_execve(THIS_CALL("execle"), path, argv, va_arg(again, char **)));
 }
+
+/* Calls of the system by their numbers. A child that is to go on in the same frame, as that of vfork, would find it
+   changed: so a stub goes to the C library's function in all cases but these. */
+
+/* Whether this is a call of clone by which the child goes on here, in a copy of all. */
+static bool is_fork(long number, long first, long second)
+{
+    struct clone_args asked;
+    if (number == SYS_clone3) {
+        if (!ask_is_there((uintptr_t)first, CLONE_ARGS_SIZE_VER0))
+            return false;
+        memcpy(&asked, (const void *)first, CLONE_ARGS_SIZE_VER0);
+        return copies_process(asked.flags) && asked.stack == 0;
+    }
+#ifdef SYS_fork
+    if (number == SYS_fork)
+        return true;
+#endif
+    return number == SYS_clone && copies_process((unsigned long)first) && second == 0;
+}
+
+/* A filter of calls is known from here on, unless it is refused. */
+static long install_filter(long number, long first, long second, long third, long fourth, long fifth)
+{
+    bool is_strict = second == SECCOMP_MODE_STRICT && number == SYS_prctl;
+    if (number == SYS_seccomp)
+        is_strict = first == SECCOMP_SET_MODE_STRICT;
+    const struct filter *copy = ask_filter_copied(is_strict, (const void *)third);
+    long result = real_syscall(number, first, second, third, fourth, fifth);
+    bool is_for_all = number == SYS_seccomp && ((unsigned long)second & SECCOMP_FILTER_FLAG_TSYNC) != 0;
+    note_filter_ends(copy, result == 0 || (result > 0 && !is_for_all), is_for_all);
+    return result;
+}
+
+static bool is_installing(long number, long first)
+{
+    return (number == SYS_prctl && first == PR_SET_SECCOMP)
+           || (number == SYS_seccomp && (first == SECCOMP_SET_MODE_STRICT || first == SECCOMP_SET_MODE_FILTER));
+}
+
+static long checked_call(long number, long first, long second, long third, long fourth, long fifth, long sixth)
+{
+    IS_OWN_FRAME;
+    if (number == SYS_execve)
+        return run_execve(THIS_CALL("syscall"), (const char *)first, (char *const *)second, (char *const *)third);
+    if (number == SYS_exit_group || number == SYS_exit)
+        return real_syscall(number, (long)ask_finish((int)first));
+    if (number == SYS_prctl || number == SYS_seccomp)
+        return install_filter(number, first, second, third, fourth, fifth);
+    note_fork_begins();
+    long child = real_syscall(number, first, second, third, fourth, fifth, sixth);
+    end_fork(child);
+    return child;
+}
+
+/* Where a call goes on. */
+CHECK uintptr_t way_of_call(long number, long first, long second)
+{
+    bool is_ours = number == SYS_execve || number == SYS_exit_group || (number == SYS_exit && ask_ends_process())
+                   || is_installing(number, first) || is_fork(number, first, second);
+    return is_ours ? (uintptr_t)checked_call : (uintptr_t)real_syscall;
+}
+
+GUARD_OWN(syscall);
+TOP_ASM(".pushsection .text\n"
+        ".type checked_syscall,@function\nchecked_syscall:\n"
+        "\t.cfi_startproc\n"
+        LANDING GO_WITH_ALL_TO_RESULT("way_of_call")
+        "\t.cfi_endproc\n"
+        ".size checked_syscall, .-checked_syscall\n"
+        ".popsection\n");

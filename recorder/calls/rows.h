@@ -64,7 +64,12 @@
 #define HAS_BEGUN(child)                                                                                               \
     if (is_expected)                                                                                                   \
         note_child_number(DONE && (child) != NULL ? *(child) : 0)
+#define ASKS_HOW(type, place) type how_here, *how = (place) != NULL ? (place) : &how_here
 #define HAS_ENDED(child, status) note_ended((int)(child), status)
+#define HAS_ENDED_BY(information)                                                                                      \
+    if ((information)->si_code == CLD_KILLED || (information)->si_code == CLD_DUMPED)                                  \
+        note_child_killed((information)->si_pid, (information)->si_status)
+#define NOT_OURS(file) file = ask_shown_descriptor(file)
 #define NAMES_THREAD(thread, name) note_thread_name(thread, name)
 #define ALLOCATES note_called_from(call.caller)
 #define ALLOCATED note_called_from(0)

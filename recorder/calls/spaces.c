@@ -1,5 +1,6 @@
 /* Memory that becomes something else: a stack of the program's own may have been there, whose redzones must not stay.
-   Here are mmap and the like, makecontext and switches of contexts; and mlockall, which must not lock the shadow.
+   Here are mmap and the like, makecontext and switches of contexts; mlockall, which must not lock the shadow; and
+   mprotect, which may forbid to read a part of the thread's own stack.
 
    Called: by the program's calls of these, in any thread, also in a signal handler. Lock: none: the shadow, the
    thread's own data and atomic tables are written; by mlockall only errno. A check also calls the function itself. */
@@ -9,6 +10,7 @@
 #include <sys/mman.h>
 #include <ucontext.h>
 
+#include "base/system.h"
 #include "calls/stubs.h"
 #include "interface/hooks.h"
 
@@ -20,14 +22,20 @@ REAL(int, munmap, (void *, size_t));
 REAL(void *, mmap, (void *, size_t, int, int, int, off_t));
 REAL(void *, mmap64, (void *, size_t, int, int, int, off_t));
 REAL(void *, mremap, (void *, size_t, size_t, int, ...));
-REAL(int, mlockall, (int));
-REAL(void, makecontext, (ucontext_t *, void (*)(void), int, ...));
+REAL(int, mprotect, (void *, size_t, int));
+
+/* Whether the system looks at what lies there: it refuses other arguments at once. */
+static bool may_unmap(uintptr_t start, size_t size)
+{
+    return start % SYSTEM_PAGE == 0 && size != 0 && start < MEMORY_END && size <= MEMORY_END - start;
+}
 
 /* Before the call: after it another thread may have the addresses. */
 GUARD_OWN(munmap);
 CHECK int checked_munmap(void *start, size_t size)
 {
-    shadow_clear((uintptr_t)start, size);
+    if (may_unmap((uintptr_t)start, size))
+        shadow_clear((uintptr_t)start, size);
     return real_munmap(start, size);
 }
 
@@ -58,33 +66,34 @@ CHECK void *checked_mremap(void *old, size_t old_size, size_t size, int flags, .
     return found;
 }
 
-/* Not untouched memory: the shadow has 32 TiB of addresses. Nor is it refused because of these, as by the limit
-   of users who may lock little: then nothing is locked, as with AddressSanitizer. */
-GUARD_OWN(mlockall);
-CHECK int checked_mlockall(int flags)
+/* A walk over the stack reads no page that is forbidden. */
+GUARD_OWN(mprotect);
+CHECK int checked_mprotect(void *start, size_t size, int protection)
 {
-    int before = errno, done = real_mlockall(flags | MCL_ONFAULT);
-    if (done == 0 || errno != ENOMEM)
-        return done;
-    errno = before;
-    return 0;
+    bool can_be_read = (protection & PROT_READ) != 0;
+    if (!can_be_read)
+        note_rights((uintptr_t)start, size, false);
+    int done = real_mprotect(start, size, protection);
+    if (can_be_read && done == 0)
+        note_rights((uintptr_t)start, size, true);
+    return done;
 }
 
-/* A stack of the program's own begins anew. Functions interrupted on it will not continue. */
-GUARD_OWN(makecontext);
-CHECK void checked_makecontext(ucontext_t *context, void function(void), int count, ...)
+/* Not untouched memory: the shadow has 32 TiB of addresses. Nor is it refused because of these, as by the limit
+   of users who may lock little: then nothing is locked, as with AddressSanitizer. */
+#ifdef IS_PRELOAD /* a plain program may call it before a module with checks has come (start/exports.c) */
+int asancol_instead_mlockall(int flags);
+int asancol_instead_mlockall(int flags)
+#else
+GUARD_OWN(mlockall);
+CHECK int checked_mlockall(int flags)
+#endif
 {
-    enum { MOST = 16 };
-    long words[MOST] = {0};
-    va_list rest;
-    va_start(rest, count);
-    for (int i = 0; i < count && i < MOST; i++)
-        words[i] = va_arg(rest, long);
-    va_end(rest);
-    uintptr_t start = (uintptr_t)context->uc_stack.ss_sp;
-    note_stack_begins((struct span){start, start + context->uc_stack.ss_size});
-    real_makecontext(context, function, count, words[0], words[1], words[2], words[3], words[4], words[5], words[6],
-                words[7], words[8], words[9], words[10], words[11], words[12], words[13], words[14], words[15]);
+    long failed = system_call3(SYS_mlockall, flags | MCL_ONFAULT, 0, 0);
+    if (failed == 0 || failed == -ENOMEM)
+        return 0;
+    errno = (int)-failed;
+    return -1;
 }
 
 /* Switches. The function is gone to, and not called: what it keeps of its caller may be gone to more than once. */
@@ -124,6 +133,18 @@ __attribute__((used)) static void before_switch(const ucontext_t *old, const uco
 
 SWITCH(swapcontext, "")
 SWITCH(setcontext, FIRST_IS_SECOND)
+
+/* A stack of the program's own begins anew. Functions interrupted on it will not continue. Any number of arguments may
+   follow these. */
+__attribute__((used)) static void before_makecontext(const ucontext_t *context, const void *function, uintptr_t frame)
+{
+    uintptr_t start = (uintptr_t)context->uc_stack.ss_sp;
+    (void)function, (void)frame;
+    note_stack_begins((struct span){start, start + context->uc_stack.ss_size});
+}
+
+GUARD_OWN(makecontext);
+NOTED("checked_makecontext", makecontext, before_makecontext, "")
 
 /* Those of Boost.Context, whose callers are its headers. A context is its stack pointer. */
 

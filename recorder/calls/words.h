@@ -20,6 +20,7 @@
 #include <ifaddrs.h>
 #include <limits.h>
 #include <linux/capability.h>
+#include <linux/seccomp.h>
 #include <mntent.h>
 #include <mqueue.h>
 #include <net/if.h>
@@ -84,6 +85,16 @@ HELPER static size_t compared(const void *one, const void *other, size_t size)
 }
 
 #define COMPARED(one, other, size) compared(one, other, size)
+
+/* A filter of system calls. */
+#define BEGINS_FILTER(option, mode, program)                                                                           \
+    const struct filter *copy =                                                                                        \
+        option != PR_SET_SECCOMP                                                                                       \
+            ? NULL                                                                                                     \
+            : ask_filter_copied((uintptr_t)mode == SECCOMP_MODE_STRICT, (const void *)(uintptr_t)program)
+#define ENDS_FILTER                                                                                                    \
+    if (copy != NULL)                                                                                                  \
+    note_filter_ends(copy, DONE, false)
 
 /* A string that is put after another one. */
 
@@ -328,11 +339,15 @@ HELPER static unsigned first_bad_message(const struct mmsghdr *messages, unsigne
 #define WRITES_MESSAGE(message, room, size) writes_message(message, room, (size_t)(size), call)
 
 /* The system reads whole words of a set. A count may be greater than what the set has room for. */
-HELPER static void reads_set(const void *set, int count, struct call call)
+HELPER static void reads_set(const unsigned long *set, int count, struct call call)
 {
     enum { WORD = NFDBITS };
+    int hidden = ask_hidden_descriptor(0);
     if (count > 0)
         READS(set, (LEAST(count, FD_SETSIZE) + WORD - 1) / WORD * (WORD / CHAR_BIT));
+    /* The recorder's own is to be none there, for which the call fails. */
+    if (UNLIKELY(hidden < count) && IS_THERE(set + hidden / WORD) && (set[hidden / WORD] >> hidden % WORD & 1) != 0)
+        note_descriptor_wanted(hidden);
 }
 
 #define READS_SET(set, count) reads_set(set, count, call)
@@ -351,10 +366,27 @@ HELPER static void checks_files(enum code code, struct pollfd *files, nfds_t cou
     }
 }
 
+/* One of the recorder's own is none. Answers how many were found. */
+HELPER static int shown_files(struct pollfd *files, nfds_t count, int found)
+{
+    int hidden = ask_hidden_descriptor(0);
+    if (hidden == INT_MAX || files == NULL)
+        return found;
+    for (nfds_t i = 0; i < count && i < MOST_FILES; i++) {
+        if (LIKELY(files[i].fd < hidden || ask_shown_descriptor(files[i].fd) >= 0))
+            continue;
+        found += files[i].revents == 0;
+        files[i].revents = POLLNVAL;
+    }
+    return found;
+}
+
 #define READS_FILES(files, count) checks_files(CODE_LOAD, files, count, call)
 #define WRITES_FILES(files, count)                                                                                     \
-    if (result >= 0)                                                                                                   \
-    checks_files(CODE_STORE, files, count, call)
+    if (result >= 0) {                                                                                                 \
+        checks_files(CODE_STORE, files, count, call);                                                                  \
+        result = shown_files(files, count, result);                                                                    \
+    }
 
 /* What a date says, without the day of the week and of the year. */
 #define READS_DATE(time)                                                                                               \

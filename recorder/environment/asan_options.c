@@ -7,6 +7,7 @@
 #include <limits.h>
 
 #include "base/platform.h"
+#include "common/format.h"
 
 /* Those of the program, or the empty ones of interface.c. */
 VISIBLE const char *__asan_default_options(void);
@@ -17,6 +18,9 @@ VISIBLE const char *__lsan_default_suppressions(void);
 /* In the order in which AddressSanitizer reads them. Written and read at the start. */
 enum { OF_ASAN, OF_LSAN, IN_ASAN, IN_LSAN, TEXTS };
 static const char *texts[TEXTS];
+
+static const char *const names_of_texts[TEXTS] = {"__asan_default_options", "__lsan_default_options", "ASAN_OPTIONS",
+                                                  "LSAN_OPTIONS"};
 
 /* What asan_options_lines answers: less than there is room for beside a trace. */
 static struct {
@@ -183,6 +187,40 @@ static void add_suppressions(const char *text)
             add_line("!", text, length, "");
         text += length + (text[length] == '\n');
     }
+}
+
+/* Whether a later word for the same option comes first. */
+static bool is_last(const struct asan_word *word)
+{
+    struct asan_word last;
+    return find(word->option, &last) && last.name == word->name;
+}
+
+/* Adds a line that lists what a text turns off, with blanks between. What has no room is left out. */
+static void name_turned_off(int number, const bool *is_on)
+{
+    char list[1024];
+    struct asan_word word;
+    size_t length = 0;
+    for (const char *at = texts[number]; asan_next(&at, &word);) {
+        size_t more = (size_t)(word.value + word.value_length - word.name);
+        if (!asan_turns_off(&word) || is_on[word.option] || !is_last(&word)
+            || length + more + 1 > sizeof list)
+            continue;
+        list[length++] = ' ';
+        memcpy(list + length, word.name, more);
+        length += more;
+    }
+    char front[sizeof CHECKS_TURNED_OFF + 32] = CHECKS_TURNED_OFF;
+    strcat(strcat(front, names_of_texts[number]), ":");
+    if (length > 0)
+        add_line(front, list, length, "");
+}
+
+void asan_options_name_turned_off(const bool *is_on)
+{
+    for (int i = 0; i < TEXTS; i++)
+        name_turned_off(i, is_on);
 }
 
 static const char *text_or_none(const char *text)

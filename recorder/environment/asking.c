@@ -3,6 +3,7 @@
 #include "environment/asking.h"
 
 #include <errno.h>
+#include <limits.h>
 #include <string.h>
 #include <sys/un.h>
 
@@ -81,11 +82,6 @@ bool is_asked_at(const char *hub)
     return made != -ECONNREFUSED && made != -ENOENT;
 }
 
-long ask(const char *hub, const char *request, bool trusting, char *answer, size_t room)
-{
-    return ask_for(hub, request, trusting, answer, room, ASK_PATIENCE_MS);
-}
-
 int ask_begin(const char *hub, const char *request, bool trusting, int *patience_ms)
 {
     int made = connect_to(hub, patience_ms);
@@ -100,12 +96,21 @@ int ask_begin(const char *hub, const char *request, bool trusting, int *patience
     return result < 0 ? (int)result : -EPIPE;
 }
 
-long ask_for(const char *hub, const char *request, bool trusting, char *answer, size_t room, int patience_ms)
+long ask(const char *hub, const char *request, bool trusting, char *answer, size_t room)
 {
-    int made = ask_begin(hub, request, trusting, &patience_ms);
+    int patience_ms = ASK_PATIENCE_MS, made = ask_begin(hub, request, trusting, &patience_ms);
     if (made < 0)
         return made;
     long result = read_answer(made, answer, room, patience_ms);
     system_close(made);
+    return result;
+}
+
+long ask_on(int connection, const char *request, char *answer, size_t room)
+{
+    long result = system_send_anyhow(connection, request, strlen(request));
+    if (result > 0)
+        result = read_answer(connection, answer, room, INT_MAX);
+    system_close(connection);
     return result;
 }

@@ -5,6 +5,7 @@
 #include <dirent.h>
 #include <errno.h>
 #include <fcntl.h>
+#include <stdatomic.h>
 #include <stdlib.h>
 #include <string.h>
 
@@ -12,6 +13,16 @@
 #include "base/system.h"
 
 static const char tasks[] = "/proc/self/task";
+/* In another process: whose threads are meant, and which of them is the running one. */
+static _Atomic pid_t of_process, of_thread;
+
+static const char no_answer;
+static const char *is_single = &no_answer; /* the C library's, once it is known */
+
+void other_threads_know(const char *single)
+{
+    is_single = single;
+}
 
 /* Whether the system has begun to end a thread, by the text of its `stat`: it runs no code of the program any more. Who
    joins it may go on before it is gone from the folder. */
@@ -70,12 +81,31 @@ static bool visit_running(int folder, bool (*visit)(const char *thread, void *wi
     return length == 0;
 }
 
+static int open_tasks(void)
+{
+    char path[sizeof "/proc//task" + DIGITS_ROOM] = "/proc/", digits[DIGITS_ROOM];
+    pid_t process = atomic_load(&of_process);
+    if (process != 0) {
+        strcat(path, put_digits(digits + sizeof digits, (uint64_t)process, 1));
+        strcat(path, "/task");
+    }
+    return system_open(process != 0 ? path : tasks, O_RDONLY | O_DIRECTORY | O_CLOEXEC, 0);
+}
+
+void other_threads_are_of(pid_t process, pid_t thread)
+{
+    atomic_store(&of_process, process);
+    atomic_store(&of_thread, thread);
+}
+
 static bool visit_tasks(bool (*visit)(const char *thread, void *with), void *with)
 {
-    int folder = system_open(tasks, O_RDONLY | O_DIRECTORY | O_CLOEXEC, 0);
+    int folder = open_tasks();
     bool is_seen = folder >= 0 && visit_running(folder, visit, with);
     if (folder >= 0)
         system_close(folder);
+    else if (*is_single != 0)
+        is_seen = true; /* this thread need not be visited */
     return is_seen;
 }
 
@@ -88,7 +118,7 @@ static bool count_up_to_two(const char *thread, void *count)
 static bool is_alone(void)
 {
     int count = 0;
-    return visit_tasks(count_up_to_two, &count) && count == 1;
+    return visit_tasks(count_up_to_two, &count) && count < 2;
 }
 
 bool has_other_threads(void)
@@ -112,7 +142,8 @@ static bool visit_other(const char *thread, void *of)
     pid_t number = 0;
     for (const char *digit = thread; *digit >= '0' && *digit <= '9'; digit++)
         number = number * 10 + (*digit - '0');
-    if (number != system_gettid())
+    pid_t own = atomic_load(&of_thread);
+    if (number != (own != 0 ? own : system_gettid()))
         visit->visit(number, visit->with);
     return false;
 }
@@ -126,7 +157,7 @@ bool other_threads_visit(void (*visit)(pid_t thread, void *with), void *with)
 bool other_threads_has(pid_t thread)
 {
     char text[DIGITS_ROOM];
-    int folder = system_open(tasks, O_RDONLY | O_DIRECTORY | O_CLOEXEC, 0);
+    int folder = open_tasks();
     bool is_there = folder < 0 || runs(folder, put_digits(text + sizeof text, (uint64_t)thread, 1));
     if (folder >= 0)
         system_close(folder);

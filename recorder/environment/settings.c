@@ -5,6 +5,7 @@
 
 #include <limits.h>
 #include <string.h>
+#include <unistd.h>
 
 #include "environment/asan_options.h"
 #include "environment/startup.h"
@@ -266,6 +267,7 @@ static void read_options_of_asan(struct settings *settings)
     settings->use_after_return = number_of("ASANCOL_USE_AFTER_RETURN", 0, 1, returns) == 1;
     settings->with_leaks = settings->with_side
                            && (leaks == LEAKS_IN_ANY_CASE || (leaks == 1 && asan_options_say(ASAN_detect_leaks, true)));
+    settings->skipped = mismatches ? 0 : SKIPPED_FAMILIES;
     settings->mismatches = mismatches && asan_options_say(ASAN_alloc_dealloc_mismatch, true);
     settings->other_sizes = mismatches && asan_options_say(ASAN_new_delete_type_mismatch, true);
 }
@@ -291,6 +293,32 @@ static void read_classes(struct settings *settings)
     settings->keeps_empty = !asan_options_say(ASAN_allocator_frees_and_returns_null_on_realloc_zero, true);
 }
 
+/* Says which checks are off: by the options of AddressSanitizer, unless a variable of ASANCOL has turned them on;
+   or by such a variable alone. */
+static void name_turned_off(struct settings *settings)
+{
+    bool is_on[ASAN_UNKNOWN] = {[ASAN_detect_leaks] = settings->with_leaks,
+                                [ASAN_detect_stack_use_after_return] = settings->use_after_return,
+                                [ASAN_detect_odr_violation] = settings->odr == 2,
+                                [ASAN_allocator_may_return_null] = !settings->may_return_null};
+    bool leaks = !is_on[ASAN_detect_leaks] && asan_options_say(ASAN_detect_leaks, true);
+    bool odr = !is_on[ASAN_detect_odr_violation] && asan_options_level(ASAN_detect_odr_violation, 2, 2) == 2;
+    bool null = settings->may_return_null && !asan_options_say(ASAN_allocator_may_return_null, false);
+    bool returns = !settings->use_after_return && asan_options_say(ASAN_detect_stack_use_after_return, true);
+    settings->skipped |= (uint64_t)((leaks ? SKIPPED_LEAKS : 0) | (odr ? SKIPPED_ODR : 0) | (null ? SKIPPED_NULL : 0));
+    settings->says_returns = returns;
+    asan_options_name_turned_off(is_on);
+}
+
+/* The process has said nothing yet, and what it asks for is no report: so that goes to standard error alone. */
+static void print_help(void)
+{
+    char text[sizeof asan_help_page];
+    size_t length = asan_options_say(ASAN_help, false) ? asan_help(text) : 0;
+    if (length > 0 && system_write(STDERR_FILENO, text, length) < 0)
+        return; /* nobody reads it */
+}
+
 void settings_read(struct settings *settings)
 {
     static AS_TABLE struct entry log;
@@ -308,4 +336,6 @@ void settings_read(struct settings *settings)
     read_options_of_asan(settings);
     read_classes(settings);
     settings->checks_libraries = number_of("ASANCOL_LIBRARIES", 0, 1, 1) == 1;
+    name_turned_off(settings);
+    print_help();
 }

@@ -28,7 +28,9 @@ struct settings {
     uint64_t stop; /* the event at which the process stops; 0: none */
     uint64_t quarantine;
     int patience_ms;
-    bool use_after_return; /* is detected by code compiled for that */
+    bool use_after_return; /* is detected by code compiled for that; */
+    bool says_returns;     /* or a variable of ASANCOL refuses that, which the first such code says */
+    uint64_t skipped;      /* enum side_skipped: what else variables of ASANCOL turn off */
     bool with_side; /* what stands beside a trace is wanted too, */
     bool with_leaks; /* and with it what leaks */
     bool is_full; /* each malloc and free is recorded */

@@ -38,6 +38,7 @@ void startup_note(char **argv, char **variables)
         return;
     startup.is_set_user = startup_is_set_user(variables);
     startup.system_code = number_behind(variables, AT_SYSINFO_EHDR, 0);
+    startup.entry = number_behind(variables, AT_ENTRY, 0);
     uintptr_t last = number_behind(variables, AT_EXECFN, 0); /* it lies above all other texts */
     startup.words = argv[0];
     startup.are_all_words = number_behind(variables, AT_BASE, 0) != 0;

@@ -21,6 +21,7 @@ extern struct startup {
     char **variables;     /* the environment at the start, or null */
     bool is_set_user;     /* the environment is not to be believed */
     uint64_t system_code; /* where the code begins that the system maps into the process */
+    uint64_t entry;       /* of the program's own file, into its code; 0: nobody knows */
     const char *words;    /* the arguments as the system has put them, one behind the other, */
     bool are_all_words;   /* and no word lies before them: false for `ld.so PROGRAM`, and for a static program */
     uintptr_t end;        /* of what the system has put on the first stack, from argv on; 0: nobody knows */

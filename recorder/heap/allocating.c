@@ -72,9 +72,12 @@ void heap_ignore(const void *pointer)
 }
 
 /* A slot or a run for this many bytes, of whichever way the allocator goes; or null: there is no memory. */
-static struct block *take_block(size_t bytes, size_t size)
+static struct block *take_block(size_t size, size_t alignment)
 {
     struct shard *shard = heap_shard();
+    size_t bytes = room_for(size, alignment);
+    if (alignment > NEAR_ALIGNMENT)
+        return forward_take_far(1 + units_for(size, room_for(size, ALIGNMENT)), alignment);
     if (bytes > MAX_SLOT_SIZE) {
         size_t count = units_for(size, bytes);
         return heap_is_ordered() ? quarantine_take_run(count) : forward_take_run(count);
@@ -151,7 +154,7 @@ static void populate(const struct block *block, uintptr_t address, size_t size)
 /* The block becomes live, and its shadow says so: null if there is no memory. */
 static void *place_block(size_t size, size_t alignment, struct origin from, const struct use *use)
 {
-    struct block *block = take_block(room_for(size, alignment), size);
+    struct block *block = take_block(size, alignment);
     if (block == NULL)
         return NULL;
     uintptr_t address = place_in(block, size, alignment);
@@ -281,7 +284,7 @@ static __attribute__((noinline)) void *allocate_slowly(size_t size, size_t align
 {
     void *address = NULL;
     size_t most = heap.is_unpainted ? PTRDIFF_MAX - UNIT : MAX_REQUEST;
-    bool fits = size <= most && alignment <= MAX_ALIGNMENT, has_entered = fits && heap_enter();
+    bool fits = size <= most, has_entered = fits && heap_enter();
     if (has_entered) {
         address = allocate_entered(size, alignment, from, use);
         if (address != NULL && zeroed && is_small(size, alignment))

@@ -309,10 +309,14 @@ uint32_t arena_take_unused(uint32_t count)
     return take_new(count, false);
 }
 
-uint32_t arena_take_big(uint32_t count)
+uint32_t arena_take_big(uint32_t count, size_t alignment)
 {
-    uint32_t first = arena.big_top;
-    bool is_there = count <= UNITS - first && note_below(&arena.big_noted, first + count)
+    uintptr_t second = (uintptr_t)unit_start(arena.big_top + 1);
+    size_t unused = (-second & (alignment - 1)) / UNIT;
+    if (unused + count > UNITS - arena.big_top)
+        return 0;
+    uint32_t first = arena.big_top + (uint32_t)unused;
+    bool is_there = note_below(&arena.big_noted, first + count)
                     && arena_give_memory(unit_start(first), (size_t)count * UNIT);
     if (is_there)
         SET_NOTE(arena.big_top, first + count);

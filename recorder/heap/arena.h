@@ -44,9 +44,9 @@ enum { BINS = 64 };
 #define NOTE_NOW(note) __atomic_load_n(&(note), __ATOMIC_RELAXED)
 
 enum { STATE_BITS = 2, FAMILY_BITS = 2, OFFSET_BITS = 27 };
-/* An offset has room for alignments up to this. */
-#define MAX_ALIGNMENT ((size_t)1 << 30)
-_Static_assert(MAX_ALIGNMENT / ALIGNMENT <= (1 << OFFSET_BITS) / 2, "with what comes before the block");
+/* An offset has room for alignments up to this. A block of a greater one begins with the second unit of its run. */
+#define NEAR_ALIGNMENT ((size_t)1 << 30)
+_Static_assert(NEAR_ALIGNMENT / ALIGNMENT <= (1 << OFFSET_BITS) / 2, "with what comes before the block");
 
 struct block {
     union {
@@ -238,8 +238,9 @@ void arena_give_run(uint32_t first, uint32_t count);
 /* Units in a row that were never used, of zeros, at most this many; 0 if there is no memory. Nothing is noted of
    them. */
 uint32_t arena_take_unused(uint32_t count);
-/* The same for a run for a big block. */
-uint32_t arena_take_big(uint32_t count);
+/* The same for a run for a big block, whose second unit begins with a multiple of `alignment`: the units before stay as
+   they are, and nobody uses them. */
+uint32_t arena_take_big(uint32_t count, size_t alignment);
 /* Gives the memory of units back to the system for good. False: the process has locked it. */
 bool arena_drop(uint32_t first, uint32_t count);
 /* The same for all units of a region, with what the system keeps of it. */

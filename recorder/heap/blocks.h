@@ -24,6 +24,7 @@
 
 #include "heap/arena.h"
 #include "base/lock.h"
+#include "base/tables.h"
 
 enum { MAX_SLOT_SIZE = 1 << 14, FINE_STEP = 16, FINE_END = 1024, CLASSES = 64 + 16 };
 
@@ -69,6 +70,7 @@ struct shard {
     struct block *free[CLASSES];
     uint32_t free_bytes[CLASSES];
     bool is_known;      /* it is in the list of all */
+    int thread;         /* the system's number of a thread that will not give it back (shards.h); or 0 */
     struct shard *next; /* of all */
     struct shard *next_free;
 };
@@ -92,11 +94,10 @@ extern struct heap {
     struct unit_span runs;
     struct listed listed[CLASSES];
     _Atomic uint32_t dead; /* pages of freed blocks that can't be given back */
-    /* Units whose notes are kept though all of their blocks are freed, the oldest first: a ring. */
-    uint32_t kept[MOST_KEPT], first_kept, kept_count;
+    /* Of the units in heap_kept. */
+    uint32_t first_kept, kept_count;
     uint64_t kept_bytes;
     uint64_t retired_units;
-    uint16_t retired[REGIONS], forgotten[REGIONS]; /* units of each */
 
     /* In order: with all. */
     struct class classes[CLASSES];
@@ -107,6 +108,15 @@ extern struct heap {
     uint32_t poisoned;         /* units that have become poison, below FIRST_BIG; they have had memory since */
     _Atomic size_t spare_used;
 } heap;
+
+/* Units whose notes are kept though all of their blocks are freed, the oldest first: a ring. Under central. */
+static uint32_t *const heap_kept = TABLE(uint32_t, heap_kept);
+TABLE_HAS_ROOM(heap_kept, MOST_KEPT * sizeof *heap_kept);
+/* How many units of each region are retired, and forgotten. Written under central. */
+static uint16_t *const heap_retired = TABLE(uint16_t, heap_retired),
+                *const heap_forgotten = TABLE(uint16_t, heap_forgotten);
+TABLE_HAS_ROOM(heap_retired, REGIONS * sizeof *heap_retired);
+TABLE_HAS_ROOM(heap_forgotten, REGIONS * sizeof *heap_forgotten);
 
 /* How many bytes of freed spans are held if it is in order, and else how many may be dead. Not zeros at first. */
 extern _Atomic uint64_t heap_bound;
@@ -177,10 +187,11 @@ static inline struct block *block_around(uintptr_t address, uintptr_t *start)
         *start = (uintptr_t)unit_start(unit) + lead + (size_t)slot * NOTE_NOW(at->slot_size);
         return slot < used ? block_at(unit, slot) : NULL;
     }
-    if (kind == UNIT_RUN_BODY)
-        unit -= NOTE_NOW(at->count);
-    *start = (uintptr_t)unit_start(unit);
-    return kind == UNIT_RUN || kind == UNIT_RUN_BODY ? block_at(unit, 0) : NULL;
+    uint32_t back = kind == UNIT_RUN_BODY ? NOTE_NOW(at->count) : 0;
+    if ((kind != UNIT_RUN && kind != UNIT_RUN_BODY) || back >= unit)
+        return NULL;
+    *start = (uintptr_t)unit_start(unit - back);
+    return block_at(unit - back, 0);
 }
 
 /* Whether the process has it. */

@@ -22,7 +22,7 @@
 
 #include <string.h>
 
-#include "base/platform.h"
+#include "base/tables.h"
 #include "heap/blocks.h"
 #include "heap/paint.h"
 #include "heap/deciding.h"
@@ -34,12 +34,13 @@
 enum { ENTRIES = 1 << 16, PIECE = 1 << 24 };
 _Static_assert(PIECE + 2 * REDZONE <= QUARANTINE_BOUND, "a piece can be held");
 
-static AS_TABLE struct {
+static struct {
     uint32_t count;
     uint64_t held_bytes;     /* of spans, in the checker */
     _Atomic bool is_spoiled; /* something was stated past the book, by a handler that had interrupted the allocator */
-    struct entry entries[ENTRIES];
 } book;
+static struct entry *const book_entries = TABLE(struct entry, book_entries);
+TABLE_HAS_ROOM(book_entries, ENTRIES * sizeof *book_entries);
 
 void book_forget(void)
 {
@@ -66,7 +67,7 @@ static uint32_t first_after(uintptr_t address)
     uint32_t first = 0, end = book.count;
     while (first < end) {
         uint32_t middle = first + (end - first) / 2;
-        const struct entry *entry = &book.entries[middle];
+        const struct entry *entry = &book_entries[middle];
         if (span_end(entry->start, entry->size) <= address)
             first = middle + 1;
         else
@@ -79,8 +80,8 @@ static uint32_t first_after(uintptr_t address)
 static struct entry *entry_in(uintptr_t start, uintptr_t end)
 {
     uint32_t first = first_after(start);
-    bool meets = first < book.count && span_start(book.entries[first].start) < end;
-    return meets ? &book.entries[first] : NULL;
+    bool meets = first < book.count && span_start(book_entries[first].start) < end;
+    return meets ? &book_entries[first] : NULL;
 }
 
 static struct entry *entry_of_granule(uintptr_t granule)
@@ -207,8 +208,8 @@ static struct entry *state_malloc(uintptr_t start, uint32_t size)
 {
     if (!record_here(CODE_MALLOC, start, size))
         return NULL;
-    struct entry *entry = &book.entries[first_after(span_start(start))];
-    memmove(entry + 1, entry, (size_t)(&book.entries[book.count] - entry) * sizeof *entry);
+    struct entry *entry = &book_entries[first_after(span_start(start))];
+    memmove(entry + 1, entry, (size_t)(&book_entries[book.count] - entry) * sizeof *entry);
     *entry = (struct entry){.start = start, .size = size, .turn = turn_of(start)};
     book.count++;
     return entry;

@@ -11,18 +11,20 @@
 #include <sys/mman.h>
 
 #include "base/platform.h"
+#include "base/self.h"
 #include "base/system.h"
 #include "libc/library.h"
 #include "heap/freeing.h"
 #include "heap/heap.h"
 #include "heap/shards.h"
 #include "heap/spare.h"
+#include "stacks/own_stack.h"
 #include "stream/keeping.h"
 #include "stream/side.h"
 #include "stream/state.h"
 
 /* Blocks held before the settings are read are held, too. */
-AS_TABLE struct heap heap;
+struct heap heap;
 _Atomic uint64_t heap_bound = QUARANTINE_BOUND;
 
 _Thread_local struct visit this_visit;
@@ -125,6 +127,12 @@ static void give_all(void)
     lock_give(&heap.gate);
 }
 
+/* The number of this thread if nobody sees its end: of the C library's own, by clone, or in a static program. Or 0. */
+static int unseen_thread(void)
+{
+    return own_stack.top == 0 && recorder_is_own_process() ? system_gettid() : 0;
+}
+
 /* Gives this thread a shard, and before a second one goes in without a locked instruction, finds how. */
 static void find_own(void)
 {
@@ -135,7 +143,7 @@ static void find_own(void)
     if (!alone && !atomic_load_explicit(&heap.has_barrier, memory_order_relaxed)
         && membarrier(MEMBARRIER_CMD_REGISTER_PRIVATE_EXPEDITED) == 0)
         atomic_store_explicit(&heap.has_barrier, true, memory_order_release);
-    this_visit.own = shard_take();
+    this_visit.own = shard_take(unseen_thread());
     if (!alone)
         lock_give(&heap.gate);
 }

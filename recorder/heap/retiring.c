@@ -42,8 +42,8 @@ static void count_forgotten(uint32_t unit, uint32_t count)
 {
     for (uint32_t region; count > 0; unit++, count--) {
         region = unit / REGION_UNITS;
-        SET_NOTE(heap.forgotten[region], heap.forgotten[region] + 1);
-        if (heap.forgotten[region] == REGION_UNITS)
+        SET_NOTE(heap_forgotten[region], heap_forgotten[region] + 1);
+        if (heap_forgotten[region] == REGION_UNITS)
             arena_forget_region(region);
     }
 }
@@ -53,8 +53,8 @@ static void count_retired(uint32_t unit, uint32_t count)
     heap.retired_units += count;
     for (uint32_t region; count > 0; unit++, count--) {
         region = unit / REGION_UNITS;
-        SET_NOTE(heap.retired[region], heap.retired[region] + 1);
-        if (heap.retired[region] != REGION_UNITS)
+        SET_NOTE(heap_retired[region], heap_retired[region] + 1);
+        if (heap_retired[region] != REGION_UNITS)
             continue;
         arena_renew_region(region);
         if (!heap.is_unpainted)
@@ -66,7 +66,7 @@ static void count_retired(uint32_t unit, uint32_t count)
 
 static uint32_t take_oldest(void)
 {
-    uint32_t unit = heap.kept[heap.first_kept];
+    uint32_t unit = heap_kept[heap.first_kept];
     heap.first_kept = (heap.first_kept + 1) % MOST_KEPT;
     heap.kept_count--;
     return unit;
@@ -98,7 +98,7 @@ static void keep(uint32_t unit)
     /* A handler may jump out of the middle: then the bytes are too many. */
     heap.kept_bytes += note_bytes(&arena.units[unit]);
     atomic_signal_fence(memory_order_seq_cst);
-    heap.kept[(heap.first_kept + heap.kept_count) % MOST_KEPT] = unit;
+    heap_kept[(heap.first_kept + heap.kept_count) % MOST_KEPT] = unit;
     heap.kept_count++;
     SET_NOTE(arena.units[unit].form, FORM_BACK);
     while (heap.kept_count == MOST_KEPT || (heap.kept_bytes > MOST_KEPT_BYTES && heap.kept_count > 0))
@@ -110,10 +110,10 @@ static void keep(uint32_t unit)
 static uint32_t find_kept(uint32_t least, uint32_t most)
 {
     bool is_big = (size_t)least * UNIT > BIG_BYTES;
-    while (heap.kept_count > 0 && !is_kept(&arena.units[heap.kept[heap.first_kept]]))
+    while (heap.kept_count > 0 && !is_kept(&arena.units[heap_kept[heap.first_kept]]))
         take_oldest();
     for (uint32_t i = 0; i < heap.kept_count; i++) {
-        uint32_t number = heap.kept[(heap.first_kept + i) % MOST_KEPT];
+        uint32_t number = heap_kept[(heap.first_kept + i) % MOST_KEPT];
         const struct unit *unit = &arena.units[number];
         if (is_kept(unit) && is_big == (number >= FIRST_BIG) && units_at(number) >= least && units_at(number) <= most)
             return number;
@@ -142,8 +142,8 @@ void retiring_undo(uint32_t number)
     for (uint32_t at = number; at < number + units; at++) {
         uint32_t region = at / REGION_UNITS;
         SET_NOTE(arena.units[at].turns, turns);
-        SET_NOTE(heap.retired[region], heap.retired[region] - 1);
-        SET_NOTE(heap.forgotten[region], heap.forgotten[region] - !has_notes);
+        SET_NOTE(heap_retired[region], heap_retired[region] - 1);
+        SET_NOTE(heap_forgotten[region], heap_forgotten[region] - !has_notes);
     }
     SET_NOTE(unit->form, FORM_NONE);
     if (has_notes && unit->kind == UNIT_SLAB)
@@ -461,11 +461,12 @@ bool retiring_has(uintptr_t address)
     uint32_t region = region_of(address);
     if (region == REGIONS)
         return false;
-    const struct unit *unit = &arena.units[number_at(address)];
-    if (NOTE_NOW(unit->kind) == UNIT_RUN_BODY)
-        unit -= NOTE_NOW(unit->count);
-    return NOTE_NOW(unit->form) >= FORM_RETIRED || NOTE_NOW(heap.retired[region]) == REGION_UNITS
-           || is_headless(number_at(address));
+    uint32_t number = number_at(address);
+    const struct unit *unit = &arena.units[number];
+    uint32_t back = NOTE_NOW(unit->kind) == UNIT_RUN_BODY ? NOTE_NOW(unit->count) : 0;
+    unit -= back < number ? back : 0; /* a count may be one from before */
+    return NOTE_NOW(unit->form) >= FORM_RETIRED || NOTE_NOW(heap_retired[region]) == REGION_UNITS
+           || is_headless(number);
 }
 
 size_t retiring_forgot(uintptr_t address)
@@ -473,7 +474,7 @@ size_t retiring_forgot(uintptr_t address)
     uint32_t region = region_of(address);
     if (region == REGIONS)
         return 0;
-    if (NOTE_NOW(heap.forgotten[region]) == REGION_UNITS)
+    if (NOTE_NOW(heap_forgotten[region]) == REGION_UNITS)
         return (size_t)REGION_UNITS * UNIT;
     const struct unit *unit = &arena.units[number_at(address)];
     bool is_new = NOTE_NOW(unit->kind) == UNIT_NEW && NOTE_NOW(unit->form) == FORM_FORGOTTEN;

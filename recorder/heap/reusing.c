@@ -10,7 +10,7 @@ static uint32_t next_small = 1, next_big = FIRST_BIG;
 
 static bool is_wiped(uint32_t region)
 {
-    return NOTE_NOW(heap.forgotten[region]) == REGION_UNITS;
+    return NOTE_NOW(heap_forgotten[region]) == REGION_UNITS;
 }
 
 /* How many units from this one on are retired together; or 0. */

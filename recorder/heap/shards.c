@@ -1,11 +1,13 @@
 /* A list of all shards, which only grows, and one of those that no thread has. A shard has for each class the unit from
    which it takes slots (struct slab). Under central run span_size, take_units and all that is for runs, except
-   forward_take_run, which takes it; with the gate add and make_shards. */
+   forward_take_run and forward_take_far, which take it; with the gate add and make_shards. */
 #define _GNU_SOURCE
 #include "heap/shards.h"
 
+#include <errno.h>
 #include <sys/mman.h>
 
+#include "base/self.h"
 #include "base/system.h"
 #include "libc/library.h"
 #include "heap/central.h"
@@ -34,7 +36,9 @@ struct shard *shards_common(void)
 }
 
 /* How many are made at a time: they fill whole pages. */
+#ifndef SHARDS_AT_ONCE
 enum { SHARDS_AT_ONCE = 16 };
+#endif
 
 static bool make_shards(void)
 {
@@ -54,14 +58,41 @@ static void add(struct shard *shard)
     shard->is_known = true;
 }
 
-struct shard *shard_take(void)
+/* Threads that do not give theirs back: how many were there when they were last looked at, and how many came since. */
+static uint32_t were_there, came_since;
+
+/* One that was ended inside is still busy. */
+static bool has_ended(const struct shard *shard)
+{
+    return system_tgkill(self_process(), shard->thread, 0) == -ESRCH && !atomic_load(&shard->is_busy);
+}
+
+/* Takes the shards of those that have ended, once there are twice as many. A child that no fork has announced has
+   none of these threads, and the one that it has may have another number. */
+static void take_from_ended(void)
+{
+    if (came_since < SHARDS_AT_ONCE || came_since < were_there || !recorder_is_own_process())
+        return;
+    were_there = came_since = 0;
+    for (struct shard *it = atomic_load(&heap.shards); it != NULL; it = it->next)
+        if (it->thread != 0 && has_ended(it))
+            shard_give(it);
+        else if (it->thread != 0)
+            were_there++;
+}
+
+struct shard *shard_take(int thread)
 {
     if (atomic_load(&heap.shards) == NULL)
         shard_give(&first_shard);
+    if (heap.free_shards == NULL)
+        take_from_ended();
     if (heap.free_shards == NULL && !make_shards())
         return NULL;
     struct shard *shard = heap.free_shards;
     heap.free_shards = shard->next_free;
+    shard->thread = thread;
+    came_since += thread != 0;
     if (!shard->is_known)
         add(shard);
     return shard;
@@ -69,6 +100,7 @@ struct shard *shard_take(void)
 
 void shard_give(struct shard *shard)
 {
+    shard->thread = 0;
     shard->next_free = heap.free_shards;
     heap.free_shards = shard;
 }
@@ -76,6 +108,8 @@ void shard_give(struct shard *shard)
 void shards_are_left(struct shard *own)
 {
     heap.free_shards = NULL;
+    if (own != NULL)
+        own->thread = 0; /* it has another number now */
     for (struct shard *it = atomic_load(&heap.shards); it != NULL; it = it->next)
         if (it != own)
             shard_give(it);
@@ -304,7 +338,7 @@ static uint32_t take_run(uint32_t count)
     uint32_t first = are_many ? take_run_back(count, true) : 0;
     if (first != 0)
         return first;
-    first = is_big ? arena_take_big(count) : take_small_run(count);
+    first = is_big ? arena_take_big(count, UNIT) : take_small_run(count);
     if (first != 0)
         write_run(first, count);
     return first != 0 ? first : take_any_run(count);
@@ -316,6 +350,18 @@ struct block *forward_take_run(size_t count)
         return NULL;
     central_take();
     uint32_t first = take_run((uint32_t)count);
+    central_give();
+    return first == 0 ? NULL : block_at(first, 0);
+}
+
+struct block *forward_take_far(size_t count, size_t alignment)
+{
+    if (count > UNITS - FIRST_BIG)
+        return NULL;
+    central_take();
+    uint32_t first = arena_take_big((uint32_t)count, alignment);
+    if (first != 0)
+        write_run(first, (uint32_t)count);
     central_give();
     return first == 0 ? NULL : block_at(first, 0);
 }

@@ -13,18 +13,19 @@
    of the quarantine, free slots of the oldest such units are reused, and the stream says so
    (side_note_reuse).
 
-   Called: shard_take_slot and shards_common by allocating.c, with forward_take_run; forward_bury and is_kept_free by
-   freeing.c: in the thread that is in this shard, or has all (blocks.h), also in a handler that was let in. No
-   further lock is held; central is taken here where units are. shards_give_back by numbers.c, and shards_stop by
-   quarantine.c, with all. By entering.c shard_take and shard_give with the gate, and shards_are_left in a forked
-   child. */
+   Called: shard_take_slot and shards_common by allocating.c, with forward_take_run and forward_take_far; forward_bury
+   and is_kept_free by freeing.c: in the thread that is in this shard, or has all (blocks.h), also in a handler that was
+   let in. No further lock is held; central is taken here where units are. shards_give_back by numbers.c, and
+   shards_stop by quarantine.c, with all. By entering.c shard_take and shard_give with the gate, and shards_are_left in
+   a forked child. */
 #ifndef ASANCOL_SHARDS_H
 #define ASANCOL_SHARDS_H
 
 #include "heap/placing.h"
 
-/* A shard for a thread, or null: there is no memory. And back. The gate is held, or there is one thread. */
-struct shard *shard_take(void);
+/* A shard for a thread, or null: there is no memory. And back. The gate is held, or there is one thread. If the thread
+   will not give it back, its number; else 0. */
+struct shard *shard_take(int thread);
 void shard_give(struct shard *shard);
 /* After a fork no thread has any other than this one. */
 void shards_are_left(struct shard *own);
@@ -77,6 +78,8 @@ static inline bool is_kept_free(struct shard *shard, struct block *block, uint32
 
 /* A run of units, which are poison unless it is big; or null. */
 struct block *forward_take_run(size_t count);
+/* One whose second unit begins with a multiple of this alignment; also if it is in order. */
+struct block *forward_take_far(size_t count, size_t alignment);
 /* The block of this unit is freed for good: its shadow says so, and its notes. In this shard, or with all if that is
    null. */
 void forward_bury(struct shard *shard, struct block *block, uint32_t unit);

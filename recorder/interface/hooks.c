@@ -6,12 +6,15 @@
 #define _GNU_SOURCE
 #include "interface/hooks.h"
 
+#include "base/filters.h"
+#include "base/system.h"
+#include "base/descriptors.h"
 #include "libc/library.h"
+#include "environment/other_threads.h"
 #include "process/root.h"
 #include "process/plain.h"
 #include "shadow/globals.h"
 #include "heap/heap.h"
-#include "interface/init_order.h"
 #include "interface/odr.h"
 #include "interface/pairs.h"
 #include "interface/reports.h"
@@ -19,13 +22,18 @@
 #include "leaks/root_regions.h"
 #include "process/given.h"
 #include "process/halt.h"
+#include "process/init_order.h"
 #include "process/process.h"
 #include "process/signals.h"
 #include "process/unchecked.h"
+#include "process/world.h"
 #include "process/preload_wait.h"
 #include "stacks/fake_stack.h"
+#include "stacks/own_stack.h"
+#include "stacks/walks.h"
 #include "stacks/unwinding.h"
 #include "stream/thread_list.h"
+#include "stream/sending.h"
 #include "stream/side.h"
 
 static void modules_changed(void)
@@ -38,13 +46,24 @@ static void modules_changed(void)
     stream_write_modules();
 }
 
+/* Whether the end of this thread is one of the process that is to be seen. */
+static bool ends_process(void)
+{
+    return !recorder_is_absent() && !has_other_threads();
+}
+
 /* Answers the status with which the process is to end. */
 static int finish_at_exit(int status)
 {
+    if (recorder_is_absent())
+        return status;
     halt_is_waited_for();
     recorder_exit(true);
-    int of_run = root_end_at_exit((status & 0xff) << 8);
-    return of_run != STATUS_STAYS ? of_run : status;
+    int of_run = root_end_at_exit((status & 0xff) << 8, true);
+    status = of_run != STATUS_STAYS ? of_run : status;
+    if (world_is_stopped())
+        system_exit(status);
+    return status;
 }
 
 #ifdef IS_STATIC

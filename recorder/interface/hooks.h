@@ -8,6 +8,7 @@
 #ifndef ASANCOL_HOOKS_H
 #define ASANCOL_HOOKS_H
 
+#include <limits.h>
 #include <stdatomic.h>
 #include <stdbool.h>
 #include <stddef.h>
@@ -25,6 +26,7 @@
 #include "process/threads.h"
 
 struct sigaction;
+struct filter;
 struct global;
 struct reports;
 
@@ -126,7 +128,7 @@ static inline void note_each_access(void)
 static inline void note_ended(int child, const int *status)
 {
     enum { SIGNAL_BITS = 0x7f, STOPPED = 0x7f };
-    int number = child > 0 && status != NULL ? *status & SIGNAL_BITS : 0;
+    int number = child > 0 ? *status & SIGNAL_BITS : 0;
     if (UNLIKELY(number != 0 && number != STOPPED))
         note_child_killed(child, number);
 }

@@ -14,6 +14,7 @@
 #include <stddef.h>
 #include <string.h>
 
+#include "base/tables.h"
 #include "libc/library.h"
 #include "libc/objects.h"
 #include "process/process.h"
@@ -29,7 +30,9 @@ enum { BY_SIZE = 1 };
 
 /* The names that have come, by bits of their hashes: most are of one global alone. */
 enum { NAME_BITS = 1 << 19, BYTE = 8 };
-static _Atomic unsigned char names[NAME_BITS / BYTE];
+static _Atomic unsigned char *const names = TABLE(_Atomic unsigned char, names_seen);
+enum { NAME_BYTES = NAME_BITS / BYTE };
+TABLE_HAS_ROOM(names_seen, NAME_BYTES);
 
 /* Notes a name. Answers whether it may have come before. */
 static bool has_come(const char *name)
@@ -38,7 +41,7 @@ static bool has_come(const char *name)
     for (const char *at = name; *at != 0; at++)
         hash = (hash ^ (unsigned char)*at) * UINT64_C(0x9e3779b97f4a7c15), hash ^= hash >> 29;
     unsigned char bit = (unsigned char)(1 << hash % BYTE);
-    return (atomic_fetch_or(&names[hash / BYTE % sizeof names], bit) & bit) != 0;
+    return (atomic_fetch_or(&names[hash / BYTE % NAME_BYTES], bit) & bit) != 0;
 }
 
 /* Those that GCC gives to texts: they are often the same, and never shown. */

@@ -1,8 +1,9 @@
 /* The locks are taken in this order: the loader's, the allocator's. A thread that has the loader's may wait for the
    allocator's, and no thread the other way round. Then the other threads are stopped, and until they go on nothing is
-   called that takes a lock: any other one may be held by a thread that stands still. So of the C library only
-   dl_iterate_phdr is called, whose lock this thread has, and what takes none (roots.c). This thread is undisturbed
-   (base/disturbance.h) all the time. find_lost alone has both; is_wanted, look_from and note have none.
+   called that takes a lock of others than the recorder: it may be held by a thread that stands still. So of the C
+   library only dl_iterate_phdr is called, whose lock this thread has, and what takes none (roots.c). This thread is
+   undisturbed (base/disturbance.h) all the time. find_lost alone has both; is_wanted, look_from and note have none.
+   At an exit the others stay stopped until the process is gone.
 
    `struct search` is what one search has found: groups of lost blocks (lost.h), or why there is none. */
 #define _GNU_SOURCE
@@ -34,7 +35,7 @@
 /* The process may say so by a function of this name. */
 extern int __lsan_is_turned_off(void) __attribute__((weak));
 
-static _Atomic bool is_over;
+static _Atomic bool is_over, is_at_end;
 
 struct search {
     uintptr_t frame; /* of the running thread's stack all above is in use */
@@ -42,21 +43,24 @@ struct search {
     struct lost lost;
 };
 
-/* With the lock of the allocator, which is held until the end. The others stand still only while marks are made.
-   Returns why it can't be done, or null. */
+/* The others stand still, perhaps in another process with this memory. */
+static void mark_all(void *of)
+{
+    const struct search *search = of;
+    roots_mark(search->frame);
+    mark_indirect();
+}
+
+/* With the lock of the allocator, which is held until the end. Returns why it can't be done, or null. */
 static const char *find_lost(struct search *search)
 {
     if (!arena_is_found())
         return NULL;
     if (!marking_begin())
         return "there is no memory for it";
-    const char *why = world_stop();
-    if (why == NULL) {
-        roots_mark(search->frame);
-        mark_indirect();
-        world_go_on();
+    const char *why = world_stop_for(mark_all, search, atomic_load(&is_at_end));
+    if (why == NULL)
         why = lost_find(&search->lost) ? NULL : "there is no memory for it";
-    }
     marking_end();
     return why;
 }
@@ -169,7 +173,13 @@ void leaks_look_once(void)
         leaks_look_now();
 }
 
-void leaks_look_at_end(void)
+bool leaks_are_wanted(void)
 {
+    return !atomic_load(&is_over) && is_wanted();
+}
+
+void leaks_look_at_end(bool is_end)
+{
+    atomic_store(&is_at_end, is_end);
     leaks_look_once();
 }

@@ -1,4 +1,5 @@
-/* A table of 4,096 entries. What of a region is there is asked of the map of the process when leaks are looked for. */
+/* A table, whose memory doubles. What of a region is there is asked of the map of the process when leaks are looked
+   for. */
 #define _GNU_SOURCE
 #include "leaks/root_regions.h"
 
@@ -13,49 +14,53 @@
 #include "heap/heap.h"
 #include "stream/maps.h"
 
-/* A region without bytes is a free entry. */
 struct region {
     uintptr_t start, size;
 };
 
-enum { MAX_REGIONS = 1 << 12 };
-static AS_TABLE struct region regions[MAX_REGIONS];
-static size_t region_count;
+static struct region *regions;
+static size_t region_count, region_room;
 
-/* Returns the entry of a region, or null. */
-static struct region *find(uintptr_t start, uintptr_t size)
+/* Whether there is room for one more. */
+static bool make_room(void)
 {
-    for (size_t i = 0; i < region_count; i++)
-        if (regions[i].start == start && regions[i].size == size)
-            return &regions[i];
-    return NULL;
-}
-
-static struct region *free_entry(void)
-{
-    struct region *left = find(0, 0);
-    if (left != NULL)
-        return left;
-    return region_count < MAX_REGIONS ? &regions[region_count++] : NULL;
+    enum { FIRST_ROOM = PAGE / sizeof(struct region) };
+    size_t room = region_room != 0 ? 2 * region_room : FIRST_ROOM;
+    if (region_count < region_room)
+        return true;
+    long made = system_mmap(NULL, room * sizeof *regions, PROT_READ | PROT_WRITE, MAP_PRIVATE | MAP_ANONYMOUS, -1, 0);
+    if (made < 0)
+        return false;
+    if (region_count != 0) {
+        memcpy((void *)made, regions, region_count * sizeof *regions);
+        system_munmap(regions, region_room * sizeof *regions);
+    }
+    regions = (struct region *)made;
+    region_room = room;
+    return true;
 }
 
 void root_region_add(const void *start, size_t size)
 {
+    if (size == 0)
+        return;
     heap_lock();
-    struct region *entry = size != 0 ? free_entry() : NULL;
-    if (entry != NULL)
-        *entry = (struct region){(uintptr_t)start, size};
+    bool has_room = make_room();
+    if (has_room)
+        regions[region_count++] = (struct region){(uintptr_t)start, size};
     heap_unlock();
-    if (entry == NULL && size != 0)
-        recorder_say("false leaks are possible: ", "__lsan_register_root_region", "there are too many regions");
+    if (!has_room)
+        recorder_say("false leaks are possible: ", "__lsan_register_root_region", "there is no memory for the region");
 }
 
 void root_region_remove(const void *start, size_t size)
 {
     heap_lock();
-    struct region *entry = size != 0 ? find((uintptr_t)start, size) : NULL;
-    if (entry != NULL)
-        *entry = (struct region){0, 0};
+    size_t i = 0;
+    while (i < region_count && (regions[i].start != (uintptr_t)start || regions[i].size != size))
+        i++;
+    if (i < region_count)
+        regions[i] = regions[--region_count];
     heap_unlock();
 }
 

@@ -145,7 +145,7 @@ static bool is_on(const struct own_stack *own, uintptr_t stack)
 {
     if (stack >= own->top)
         return false;
-    return stack >= own->low || (own->may_grow && own->top - stack < MOST_OF_STACK);
+    return stack >= own->low || (own->may_grow && stack >= own->other && own->top - stack < MOST_OF_STACK);
 }
 
 /* A thread whose stack pointer is not on its own stack is in a handler, or on the stack of a coroutine: then nobody

@@ -18,6 +18,7 @@ extern int __cxa_atexit(void (*)(void *), void *, void *);
 extern int on_exit_of_library(void (*)(int, void *), void *) NAMED("__on_exit");
 extern void exit(int);
 extern int _IO_flush_all(void);
+extern int _IO_cleanup(void);
 extern char **__environ;
 extern void *__libc_stack_end;
 extern char single_threaded NAMED("__libc_single_threaded");
@@ -33,6 +34,7 @@ struct library library = {
     .on_exit = on_exit_of_library,
     .exit = exit,
     ._IO_flush_all = _IO_flush_all,
+    .fcloseall = _IO_cleanup,
     .__libc_single_threaded = &single_threaded,
     .environment = &__environ,
     .__libc_stack_end = &__libc_stack_end,
@@ -148,6 +150,7 @@ static const struct {
     WANTED(on_exit),
     WANTED(exit),
     WANTED(_IO_flush_all),
+    WANTED(fcloseall),
     WANTED(__chk_fail),
     WANTED(getc),
     WANTED(getwc),

@@ -51,6 +51,7 @@ struct library {
     void *(*dlsym)(void *where, const char *name);
     int (*__cxa_atexit)(void (*handler)(void *), void *argument, void *object);
     int (*_IO_flush_all)(void);
+    int (*fcloseall)(void); /* what an exit does with streams: it flushes them, and closes none */
     void (*__chk_fail)(void) __attribute__((noreturn));
     int (*getc)(FILE *from);
     wint_t (*getwc)(FILE *from);

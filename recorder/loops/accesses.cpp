@@ -3,22 +3,19 @@
 #include "loops/accesses.hpp"
 
 #include <llvm/Analysis/ScalarEvolutionExpressions.h>
-#include <llvm/Config/llvm-config.h>
 #include <llvm/IR/DataLayout.h>
 #include <llvm/IR/InstIterator.h>
 #include <llvm/IR/IntrinsicInst.h>
 #include <llvm/IR/Module.h>
-#include <llvm/Transforms/Utils/ScalarEvolutionExpander.h>
 
 #include "interface/loops.h"
+#include "loops/llvm.hpp"
 
 using namespace llvm;
 
 namespace
 {
 
-/* At least this many rounds, if their number is constant: a test is a call. */
-const unsigned LEAST_ROUNDS = 32;
 /* One more is a call more. */
 const unsigned MOST_RANGES = 6;
 /* Accesses so near to each other are tested as one. */
@@ -119,7 +116,7 @@ bool access_reader::is_known(const SCEV *value, Loop *loop) const
 #if LLVM_VERSION_MAJOR < 15
     return isSafeToExpandAt(value, before, evolution);
 #else
-    return SCEVExpander(evolution, function.getParent()->getDataLayout(), "asancol").isSafeToExpandAt(value, before);
+    return expander_of(function, evolution).isSafeToExpandAt(value, before);
 #endif
 }
 
@@ -152,7 +149,7 @@ bool access_reader::read_end(Loop *loop, const SCEV *last, tested_loop &it) cons
     if (moved == nullptr || moved->getLoop() != loop || !moved->isAffine())
         return false;
     const auto *step = dyn_cast<SCEVConstant>(moved->getStepRecurrence(evolution));
-    if (step != nullptr && step->getAPInt().abs().isOne())
+    if (step != nullptr && step->getAPInt().abs() == 1)
         return true;
     const SCEV *between = moved->evaluateAtIteration(last, evolution);
     if (!between->isZero())

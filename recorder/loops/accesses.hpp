@@ -11,6 +11,9 @@
 #include <llvm/IR/Dominators.h>
 #include <llvm/IR/Instructions.h>
 
+/* At least this many rounds, or the checks of a loop are not worth a test, which is a call. */
+const uint64_t LEAST_ROUNDS = 32;
+
 /* A loop within the one that is looked at: it runs `last` + 1 rounds in each round of that. */
 struct inner_loop {
     llvm::Loop *loop;

@@ -5,11 +5,12 @@
 #include <algorithm>
 
 #include <llvm/Analysis/AssumptionCache.h>
-#include <llvm/Analysis/BlockFrequencyInfo.h>
 #include <llvm/Analysis/BranchProbabilityInfo.h>
 #include <llvm/IR/Module.h>
 #include <llvm/Transforms/Utils/LoopSimplify.h>
 #include <llvm/Transforms/Utils/LoopUtils.h>
+
+#include "loops/llvm.hpp"
 
 using namespace llvm;
 
@@ -34,8 +35,7 @@ double heat_of(const BasicBlock *block, const BlockFrequencyInfo &frequencies)
 {
     if (auto count = frequencies.getBlockProfileCount(block))
         return static_cast<double>(*count);
-    return static_cast<double>(frequencies.getBlockFreq(block).getFrequency())
-           / static_cast<double>(frequencies.getEntryFreq());
+    return share_of(block, frequencies);
 }
 
 double saved_by(const tested_loop &it, const BlockFrequencyInfo &frequencies)

@@ -11,16 +11,19 @@
 #include <stdio.h>
 #include <string.h>
 
-/* LLVM's `PassPluginLibraryInfo`, in its version 1. */
+/* LLVM's `PassPluginLibraryInfo`, in its version 1, and in its version 2. */
 struct plugin {
     uint32_t interface;
     const char *name, *version;
     void (*add)(void *builder);
 };
 
-__attribute__((visibility("default"))) struct plugin llvmGetPassPluginInfo(void);
+struct plugin_2 {
+    struct plugin first;
+    bool (*generate)(void); /* null: LLVM generates the code itself */
+};
 
-enum { OLDEST = 13, NEWEST = 40 };
+enum { OLDEST = 13, FIRST_OF_2 = 22, NEWEST = 99 };
 
 #ifndef HAS_LIMIT
 #define HAS_LIMIT true
@@ -46,7 +49,7 @@ static void add(void *builder)
     char path[PATH_MAX];
     Dl_info self;
     unsigned major = version_of_llvm();
-    if (major == 0 || dladdr((void *)(uintptr_t)llvmGetPassPluginInfo, &self) == 0)
+    if (major == 0 || dladdr((void *)(uintptr_t)add, &self) == 0)
         return;
     const char *end = strrchr(self.dli_fname, '/');
     int folder = end == NULL ? 0 : (int)(end - self.dli_fname) + 1;
@@ -59,7 +62,21 @@ static void add(void *builder)
         add_loops(builder, HAS_LIMIT);
 }
 
-struct plugin llvmGetPassPluginInfo(void)
+static struct plugin answer(void)
 {
     return (struct plugin){1, "asancol-loops", "1", add};
 }
+
+static struct plugin_2 answer_2(void)
+{
+    return (struct plugin_2){{2, "asancol-loops", "1", add}, NULL};
+}
+
+/* Which of the two an LLVM takes: each wants its own. It is asked when LLVM looks for the name below, and nothing here
+   may name that, or the loader would ask before all is in its place. */
+__attribute__((used)) static void (*resolve(void))(void)
+{
+    return version_of_llvm() < FIRST_OF_2 ? (void (*)(void))answer : (void (*)(void))answer_2;
+}
+
+__attribute__((visibility("default"), ifunc("resolve"))) void llvmGetPassPluginInfo(void);

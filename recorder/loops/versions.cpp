@@ -16,24 +16,22 @@
 
 #include <llvm/ADT/SmallPtrSet.h>
 #include <llvm/Analysis/ScalarEvolutionExpressions.h>
-#include <llvm/IR/IRBuilder.h>
 #include <llvm/IR/MDBuilder.h>
 #include <llvm/IR/Module.h>
 #include <llvm/Transforms/Utils/BasicBlockUtils.h>
 #include <llvm/Transforms/Utils/Cloning.h>
 #include <llvm/Transforms/Utils/Local.h>
 #include <llvm/Transforms/Utils/LoopUtils.h>
-#include <llvm/Transforms/Utils/ScalarEvolutionExpander.h>
 
 #include "interface/loops.h"
+#include "loops/llvm.hpp"
 
 using namespace llvm;
 
 namespace
 {
 
-/* At least this many instructions that the checks of a loop are worth a test. */
-const uint64_t LEAST_ROUNDS = 32;
+/* At least this many instructions, or the checks of a nest are not worth a test. */
 const uint64_t LEAST_WORK = 1024;
 /* Numbers of rounds and steps are below these, so that no product of two of them wraps. */
 const uint64_t MOST_INNER = UINT64_C(1) << 31;
@@ -50,7 +48,8 @@ class versioning
   public:
     versioning(const analyses &of, const tested_loop &it)
         : of(of), it(it), context(of.function.getContext()), word(Type::getInt64Ty(context)),
-          byte(Type::getInt8Ty(context)), expander(of.evolution, of.function.getParent()->getDataLayout(), "asancol")
+          byte(Type::getInt8Ty(context)), pointer(pointer_type(context)),
+          expander(expander_of(of.function, of.evolution))
     {
     }
 
@@ -60,7 +59,7 @@ class versioning
     const analyses &of;
     const tested_loop &it;
     LLVMContext &context;
-    Type *word, *byte;
+    Type *word, *byte, *pointer;
     SCEVExpander expander;
     /* The copies of the loop, and what they have for each value of it. */
     ValueToValueMapTy copies, copies_of_rest;
@@ -141,7 +140,7 @@ void versioning::count_work(IRBuilder<> &builder)
 /* From the lowest to the highest byte of a round, where it is the first. */
 void versioning::add_range(IRBuilder<> &builder, const range &each)
 {
-    Value *start = expand(each.start, byte->getPointerTo()), *step = expand(each.step, word);
+    Value *start = expand(each.start, pointer), *step = expand(each.step, word);
     Value *low = ConstantInt::getSigned(word, each.low), *bytes = ConstantInt::getSigned(word, each.high - each.low);
     if (each.inner != nullptr) {
         Value *inner_step = expand(each.inner_step, word), *last = expand(each.inner->last, word);
@@ -212,14 +211,13 @@ void versioning::split()
 /* The call of a test of the next rounds, after this many. */
 Value *versioning::test(IRBuilder<> &builder, const char *name, Value *rounds, Value *from, const tested_range &each)
 {
-    Type *pointer = byte->getPointerTo();
     FunctionCallee function = of.function.getParent()->getOrInsertFunction(name, word, word, pointer, word, word, word,
                                                                            word);
     if (auto *declared = dyn_cast<Function>(function.getCallee())) {
         declared->setDoesNotThrow();
         declared->setOnlyAccessesInaccessibleMemory();
         declared->addFnAttr(Attribute::WillReturn);
-        declared->addParamAttr(1, Attribute::NoCapture);
+        set_not_captured(*declared, 1);
     }
     Value *start = each.start;
     if (from != nullptr)
@@ -278,7 +276,7 @@ void versioning::end_fast_loop()
     BasicBlock *header = fast->getHeader(), *latch = fast->getLoopLatch();
     auto *branch = cast<BranchInst>(latch->getTerminator());
     Value *old = branch->getCondition();
-    PHINode *round = PHINode::Create(word, 2, "asancol.round", &header->front());
+    PHINode *round = make_phi(word, 2, "asancol.round", header);
     IRBuilder<> builder(branch);
     Value *next = builder.CreateNUWAdd(round, number(1));
     bool exits_if = branch->getSuccessor(0) == done;
@@ -296,8 +294,7 @@ Value *versioning::at_end(ValueToValueMapTy &of_copies, Loop *copy, Value *value
     auto *made = dyn_cast<Instruction>(copied);
     if (made == nullptr || !copy->contains(made))
         return copied;
-    PHINode *kept = end->empty() ? PHINode::Create(copied->getType(), 1, "", end)
-                                 : PHINode::Create(copied->getType(), 1, "", &end->front());
+    PHINode *kept = make_phi(copied->getType(), 1, "", end);
     kept->addIncoming(copied, copy->getLoopLatch());
     return kept;
 }
@@ -318,7 +315,7 @@ Value *versioning::moved_by(IRBuilder<> &builder, PHINode &variable, Value *roun
     Value *way = builder.CreateMul(builder.CreateZExtOrTrunc(rounds, step->getType()), step->getValue());
     if (type->isIntegerTy())
         return builder.CreateAdd(begin, way);
-    Value *place = builder.CreateGEP(byte, builder.CreateBitCast(begin, byte->getPointerTo()), way);
+    Value *place = builder.CreateGEP(byte, builder.CreateBitCast(begin, pointer), way);
     return builder.CreateBitCast(place, type);
 }
 
@@ -339,7 +336,7 @@ void versioning::join_variable(PHINode &variable)
         return;
     }
     Value *next = at_end(copies, fast, variable.getIncomingValueForBlock(it.loop->getLoopLatch()), done);
-    PHINode *at = PHINode::Create(variable.getType(), 2, "", &strip->front());
+    PHINode *at = make_phi(variable.getType(), 2, "", strip);
     at->addIncoming(begin, first);
     at->addIncoming(next, again);
     copy->setIncomingValueForBlock(good, at);
@@ -352,7 +349,7 @@ void versioning::join_exit()
     BasicBlock *latch = it.loop->getLoopLatch();
     for (PHINode &used : exit->phis()) {
         Value *value = used.getIncomingValueForBlock(latch);
-        PHINode *kept = PHINode::Create(used.getType(), 1, "", &left->front());
+        PHINode *kept = make_phi(used.getType(), 1, "", left);
         kept->addIncoming(value, latch);
         of.evolution.forgetValue(&used);
         used.replaceIncomingBlockWith(latch, left);
@@ -367,7 +364,7 @@ void versioning::join_exit()
 void versioning::check_by_call(Instruction &access)
 {
     IRBuilder<> builder(&access);
-    Type *pointer = byte->getPointerTo(), *half = Type::getInt32Ty(context);
+    Type *half = Type::getInt32Ty(context);
     FunctionCallee function = of.function.getParent()->getOrInsertFunction(REST_ACCESS_NAME, Type::getVoidTy(context),
                                                                            pointer, half, half);
     if (auto *declared = dyn_cast<Function>(function.getCallee())) {
@@ -375,7 +372,7 @@ void versioning::check_by_call(Instruction &access)
         declared->setOnlyAccessesInaccessibleMemory();
         declared->addFnAttr(Attribute::WillReturn);
         declared->addFnAttr(Attribute::Cold);
-        declared->addParamAttr(0, Attribute::NoCapture);
+        set_not_captured(*declared, 0);
     }
     const DataLayout &layout = of.function.getParent()->getDataLayout();
     uint64_t size = layout.getTypeStoreSize(getLoadStoreType(&access)).getFixedValue();

@@ -3,7 +3,8 @@
    - of parts of complex numbers, and of objects read as another type;
    - of intrinsics that are functions of the compiler's (intrinsics.cpp), and of some others of its functions;
    - of functions of the C library that later passes replace by loads and stores, as a memcmp of few bytes: these stay
-     calls, which have checks.
+     calls, which have checks;
+   - of what may have been freed since the last check (keep_apart).
 
    What has no checks all the same goes into the object, in lines of a section that links keep: how many functions were
    compiled without any, by an attribute, and intrinsics that are not known. The wrapper has it from there (taken.c).
@@ -18,9 +19,10 @@
 #include <cgraph.h>
 #include <output.h>
 #include <plugin-version.h>
+#include <tree-cfg.h>
 #include <tree-pass.h>
 
-#include "out/plugin/made_for.h"
+#include "made_for.h"
 #include "plugin/plugin.h"
 #include "environment/link_note.h"
 
@@ -78,12 +80,19 @@ struct said {
     auto_vec<char *> lines;
 } *said;
 
+/* GCC marks the body of a lambda as made by itself, and makes no other function of this name. */
+bool is_lambda(tree function)
+{
+    tree name = DECL_NAME(function);
+    return name != NULL_TREE && strcmp(IDENTIFIER_POINTER(name), "operator()") == 0;
+}
+
 /* A function that GCC has made of another one is that, and all others that it makes are nobody's. */
 void count_function(tree made)
 {
     tree function = DECL_ORIGIN(made);
     const char *name = lbasename(DECL_SOURCE_FILE(function));
-    if (DECL_ARTIFICIAL(function) || in_system_header_at(DECL_SOURCE_LOCATION(function))
+    if ((DECL_ARTIFICIAL(function) && !is_lambda(function)) || in_system_header_at(DECL_SOURCE_LOCATION(function))
         || said->functions.add(function))
         return;
     for (struct said::file &it : said->files) {
@@ -219,6 +228,72 @@ void check_statement(gimple_stmt_iterator *at)
         say_unknown(unknown);
 }
 
+/* GCC leaves a check out that repeats one, until a call that may free. After it another thread may have freed too, once
+   there was an atomic, an asm, a volatile access, or a call of a function with any of these. So after each of them
+   stands a call of no function before GCC's pass puts in its checks, and before the one that expands them. It has no
+   operands, and is taken away again at once. */
+const char APART[] = "asancol.apart";
+
+tree make_apart()
+{
+    tree function = build_fn_decl(APART, build_function_type_list(void_type_node, NULL_TREE));
+    TREE_READONLY(function) = 1;
+    TREE_NOTHROW(function) = 1;
+    return function;
+}
+
+bool is_apart(gimple *statement, tree name)
+{
+    tree function = is_gimple_call(statement) ? gimple_call_fndecl(statement) : NULL_TREE;
+    return function != NULL_TREE && DECL_NAME(function) == name;
+}
+
+/* Whether another thread's free may be ordered by it. */
+bool is_between(gimple *statement)
+{
+    if (gimple_code(statement) == GIMPLE_ASM || gimple_has_volatile_ops(statement))
+        return true;
+    if (!is_gimple_call(statement) || gimple_vdef(statement) == NULL_TREE)
+        return false;
+    if (gimple_call_internal_p(statement))
+        return strncmp(internal_fn_name(gimple_call_internal_fn(statement)), "ATOMIC", strlen("ATOMIC")) == 0;
+    if (!gimple_call_builtin_p(statement, BUILT_IN_NORMAL))
+        return true;
+    const char *name = IDENTIFIER_POINTER(DECL_NAME(gimple_call_fndecl(statement)));
+    return strstr(name, "__atomic_") != NULL || strstr(name, "__sync_") != NULL;
+}
+
+void keep_apart(function *function)
+{
+    basic_block block;
+    tree apart = make_apart();
+    FOR_EACH_BB_FN(block, function) {
+        for (gimple_stmt_iterator at = gsi_start_bb(block); !gsi_end_p(at); gsi_next(&at)) {
+            gimple *statement = gsi_stmt(at);
+            if (!is_between(statement))
+                continue;
+            if (stmt_ends_bb_p(statement))
+                gsi_insert_before(&at, gimple_build_call(apart, 0), GSI_SAME_STMT);
+            else
+                gsi_insert_after(&at, gimple_build_call(apart, 0), GSI_NEW_STMT);
+        }
+    }
+}
+
+void take_apart(function *function)
+{
+    basic_block block;
+    tree name = get_identifier(APART);
+    FOR_EACH_BB_FN(block, function) {
+        for (gimple_stmt_iterator at = gsi_start_bb(block); !gsi_end_p(at);) {
+            if (is_apart(gsi_stmt(at), name))
+                gsi_remove(&at, true);
+            else
+                gsi_next(&at);
+        }
+    }
+}
+
 const pass_data data = {GIMPLE_PASS, "asancol", OPTGROUP_NONE, TV_NONE, PROP_ssa | PROP_cfg | PROP_gimple_leh,
                         0,           0,         0,             TODO_update_ssa};
 
@@ -233,6 +308,7 @@ public:
     unsigned execute(function *function) override
     {
         basic_block block;
+        take_apart(function);
         if (!sanitize_flags_p(SANITIZE_ADDRESS)) {
             count_function(function->decl);
             return 0;
@@ -247,9 +323,32 @@ private:
     bool is_of_all;
 };
 
-void add_after(const char *name, bool is_of_all)
+const pass_data apart_data = {GIMPLE_PASS, "asancol_apart", OPTGROUP_NONE, TV_NONE, PROP_ssa | PROP_cfg, 0, 0, 0, 0};
+
+/* Before a pass, and after one. */
+class apart : public gimple_opt_pass {
+public:
+    apart(bool is_before) : gimple_opt_pass(apart_data, g), is_before(is_before) {}
+
+    opt_pass *clone() override { return new apart(is_before); }
+    bool gate(function *) override { return sanitize_flags_p(SANITIZE_ADDRESS); }
+
+    unsigned execute(function *function) override
+    {
+        if (is_before)
+            keep_apart(function);
+        else
+            take_apart(function);
+        return 0;
+    }
+
+private:
+    bool is_before;
+};
+
+void add(opt_pass *pass, const char *name, pass_positioning_ops place)
 {
-    register_pass_info info = {new checks(is_of_all), name, 0, PASS_POS_INSERT_AFTER};
+    register_pass_info info = {pass, name, 0, place};
     register_callback("asancol", PLUGIN_PASS_MANAGER_SETUP, NULL, &info);
 }
 }
@@ -260,8 +359,12 @@ int plugin_init(plugin_name_args *, plugin_gcc_version *running)
     if (!plugin_default_version_check(running, &gcc_version))
         return 0;
     said = new struct said;
-    add_after("asan", true);
-    add_after("asan0", false);
+    add(new apart(true), "asan", PASS_POS_INSERT_BEFORE);
+    add(new checks(true), "asan", PASS_POS_INSERT_AFTER);
+    add(new apart(true), "asan0", PASS_POS_INSERT_BEFORE);
+    add(new checks(false), "asan0", PASS_POS_INSERT_AFTER);
+    add(new apart(true), "sanopt", PASS_POS_INSERT_BEFORE);
+    add(new apart(false), "sanopt", PASS_POS_INSERT_AFTER);
     register_callback("asancol", PLUGIN_FINISH_UNIT, write_said, NULL);
     return 0;
 }

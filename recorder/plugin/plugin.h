@@ -4,7 +4,11 @@
 #ifndef ASANCOL_PLUGIN_H
 #define ASANCOL_PLUGIN_H
 
-#define PLUGIN_FILE "libasancol_gcc.so"
+/* The plugin for the GCC that `make recorder` was given, and those for other major versions. */
+#define PLUGIN_NAME "libasancol_gcc"
+#define PLUGIN_FILE PLUGIN_NAME ".so"
+#define PLUGIN_FILE_OF PLUGIN_NAME "_%u.so"
+enum { PLUGIN_OLDEST = 5, PLUGIN_NEWEST = 40 };
 
 /* In it, and after it the version of the compiler for which it was made, and how that was configured. Each ends with a
    zero, and is one of the compiler's own texts, too. */

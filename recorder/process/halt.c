@@ -139,7 +139,7 @@ _Noreturn static void end_process(void)
     int status = recorder_settings()->halt_status;
     if (status < 0)
         signals_abort();
-    int of_run = root_end_at_exit(status << 8);
+    int of_run = root_end_at_exit(status << 8, true);
     system_exit(of_run != STATUS_STAYS ? of_run : status);
 }
 

@@ -14,8 +14,10 @@
 
 #include "base/digits.h"
 #include "base/disturbance.h"
+#include "base/errors.h"
 #include "base/memory.h"
 #include "base/platform.h"
+#include "base/say.h"
 #include "base/system.h"
 #include "environment/asan_options.h"
 #include "environment/asking.h"
@@ -320,19 +322,22 @@ int halt_report_descriptor(void)
     return log[0] == 0 ? STDERR_FILENO : strcmp(log, "stdout") == 0 ? STDOUT_FILENO : -1;
 }
 
-/* Where the text goes; of a file that can't be opened to standard error. */
+/* Where the text goes; of a file that can't be opened to standard error, which is said. */
 static int open_target(void)
 {
     static AS_TABLE char path[PATH_MAX + 1 + DIGITS_ROOM];
     char digits[DIGITS_ROOM];
-    int target = halt_report_descriptor();
-    if (target >= 0)
-        return target;
+    int usual = halt_report_descriptor();
+    if (usual >= 0)
+        return usual;
     strcpy(path, asan_options_log());
     strcat(path, ".");
     strcat(path, put_digits(digits + sizeof digits, (unsigned)system_getpid(), 1));
-    target = system_open(path, O_WRONLY | O_CREAT | O_TRUNC | O_CLOEXEC | O_NOCTTY, 0666);
-    return target >= 0 ? target : STDERR_FILENO;
+    int target = system_open(path, O_WRONLY | O_CREAT | O_TRUNC | O_CLOEXEC | O_NOCTTY, 0666);
+    if (target >= 0)
+        return target;
+    recorder_say("the report is on standard error: ", path, error_text(-target));
+    return STDERR_FILENO;
 }
 
 static void close_target(void)

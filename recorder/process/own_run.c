@@ -30,6 +30,7 @@
 #include "process/preload_choice.h"
 
 #define PROGRAM "asancol-run"
+#define NO_MEMORY "there is no memory, so it runs unchecked"
 
 /* There if the link was asked for it: by -fsanitize=address (by_flag.c), and by --asancol-run (by_option.c). */
 extern const char asancol_by_flag[] __attribute__((visibility("default"), weak));
@@ -61,17 +62,37 @@ static bool has_output(void)
     return orphan_value("ASANCOL_HUB") != NULL;
 }
 
-/* The program's own file. Its first word may be any other. */
-static bool find_self(char *path, size_t room)
+#define OWN_FILE "/proc/self/exe"
+#define OPEN_FILE "/proc/self/fd/"
+#define OWN_WORDS "/proc/self/cmdline"
+
+/* Whether the name leads to the file that this process runs. */
+static bool is_own_file(const char *path)
 {
-    ssize_t length = system_readlink("/proc/self/exe", path, room - 1);
+    struct stat own, seen;
+    return system_stat(OWN_FILE, &own) != 0
+           || (system_stat(path, &seen) == 0 && seen.st_dev == own.st_dev && seen.st_ino == own.st_ino);
+}
+
+/* The program's own file. Its first word may be any other. One without a name, such as in memory or after it was
+   removed, the system still has open; whoever becomes another program first has to keep it open. */
+static bool find_self(char *path, size_t room, bool is_kept)
+{
+    char digits[DIGITS_ROOM];
+    ssize_t length = system_readlink(OWN_FILE, path, room - 1);
     if (length > 0)
         path[length] = 0;
     else if (strchr(startup_name(), '/') != NULL && strlen(startup_name()) < room)
         strcpy(path, startup_name());
     else
         return false;
-    return system_access(path, X_OK) == 0;
+    if (is_own_file(path))
+        return system_access(path, X_OK) == 0;
+    int kept = is_kept ? system_open(OWN_FILE, O_PATH, 0) : 0;
+    strcpy(path, OWN_FILE);
+    if (is_kept && kept >= 0)
+        strcat(strcpy(path, OPEN_FILE), put_digits(digits + sizeof digits, (unsigned)kept, 1));
+    return kept >= 0 && system_access(OWN_FILE, X_OK) == 0;
 }
 
 /* Memory that is never given back: the process becomes another one, or goes on without it. Null: there is none. */
@@ -90,15 +111,15 @@ static bool is_reaper(void)
     return is_one != 0 || system_getpid() == 1;
 }
 
-/* asancol-run -q --format FORM --self FILE, with --serve PROCESS if it is no child of the run, and the program's words.
-   Who has come from AddressSanitizer, by its flag or its options, may have parsers of its text. Null: there is no
-   memory. */
-static const char **make_argv(const char *self, bool is_served)
+/* asancol-run -q --format FORM --self FILE, with --serve PROCESS if it is no child of the run, and the words of the
+   command. Who has come from AddressSanitizer, by its flag or its options, may have parsers of its text. Null: there is
+   no memory. */
+static const char **make_argv(const char *self, const char *const *words, bool is_served)
 {
     static char digits[DIGITS_ROOM];
     enum { FRONT = 9 };
     size_t count = 0, at = 0;
-    while (startup.argv[count] != NULL)
+    while (words[count] != NULL)
         count++;
     const char **argv = take_memory((count + FRONT + 1) * sizeof *argv);
     if (argv == NULL)
@@ -115,7 +136,7 @@ static const char **make_argv(const char *self, bool is_served)
     }
     argv[at++] = "--";
     for (size_t i = 0; i <= count; i++)
-        argv[at + i] = startup.argv[i];
+        argv[at + i] = words[i];
     return argv;
 }
 
@@ -206,6 +227,34 @@ static char *read_answer(int from, size_t *length)
     return text;
 }
 
+/* The texts that follow one another, each with its zero, as a list. Null: there is no memory. */
+static const char **list_of(const char *text, size_t length)
+{
+    size_t count = 0;
+    for (size_t i = 0; i < length; i++)
+        count += text[i] == 0;
+    const char **list = take_memory((count + 1) * sizeof *list);
+    for (size_t i = 0; list != NULL && i < count; i++, text += strlen(text) + 1)
+        list[i] = text;
+    return list;
+}
+
+/* The words with which the file of this process is executed. That is the dynamic linker's in `ld.so PROGRAM`, which has
+   taken its own words away. */
+static const char *const *find_words(void)
+{
+#ifndef IS_STATIC
+    size_t length;
+    int from = startup.are_all_words ? -1 : system_open(OWN_WORDS, O_RDONLY | O_CLOEXEC, 0);
+    const char *text = from >= 0 ? read_answer(from, &length) : NULL;
+    if (from >= 0)
+        system_close(from);
+    if (text != NULL)
+        return list_of(text, length);
+#endif
+    return (const char *const *)startup.argv;
+}
+
 static const char *why_not(int error)
 {
     return error == ENOENT ? PROGRAM " was not found, so it runs unchecked: ASANCOL_RUN may be its path"
@@ -214,11 +263,11 @@ static const char *why_not(int error)
 
 /* Starts the run, and executes the program again with what that has sent: the timer slack, and the environment. It
    answers why it did not. */
-static const char *begin_again(const char *wanted, const char *self, const char *const *argv)
+static const char *begin_again(const char *wanted, const char *self, const char *const *words, const char *const *argv)
 {
     unsigned long slack;
     int ends[2];
-    size_t length = 0, count = 0;
+    size_t length = 0;
     if (system_call3(SYS_pipe2, (long)ends, O_CLOEXEC, 0) != 0)
         return "it has no descriptor for a pipe, so it runs unchecked";
     start_run(wanted, argv, ends[1]);
@@ -230,17 +279,12 @@ static const char *begin_again(const char *wanted, const char *self, const char 
     if (text == NULL || length < sizeof slack)
         return PROGRAM " did not begin, so it runs unchecked";
     memcpy(&slack, text, sizeof slack);
-    for (size_t i = sizeof slack; i < length; i++)
-        count += text[i] == 0;
-    const char **variables = take_memory((count + 1) * sizeof *variables);
+    const char **variables = list_of(text + sizeof slack, length - sizeof slack);
     if (variables == NULL)
-        return "there is no memory, so it runs unchecked";
-    text += sizeof slack;
-    for (size_t i = 0; i < count; i++, text += strlen(text) + 1)
-        variables[i] = text;
+        return NO_MEMORY;
     if (slack != 0)
         system_call3(SYS_prctl, PR_SET_TIMERSLACK, (long)slack, 0);
-    return error_text(-(int)system_call3(SYS_execve, (long)self, (long)startup.argv, (long)variables));
+    return error_text(-(int)system_call3(SYS_execve, (long)self, (long)words, (long)variables));
 }
 
 void own_run_begin(void)
@@ -252,15 +296,17 @@ void own_run_begin(void)
     if (IS_PRELOADED || wanted == NULL || strcmp(wanted, "0") == 0 || startup.argv == NULL || startup.is_set_user
         || has_output())
         return;
+    const char *const *words = NULL;
     const char **argv = NULL;
-    if (!find_self(self, sizeof self))
+    bool is_child = is_reaper();
+    if (!find_self(self, sizeof self, is_child))
         failure = "its own file is not known, or cannot be executed, so it runs unchecked";
-    else if ((argv = make_argv(self, !is_reaper())) == NULL)
-        failure = "there is no memory, so it runs unchecked";
-    else if (is_reaper())
+    else if ((words = find_words()) == NULL || (argv = make_argv(self, words, !is_child)) == NULL)
+        failure = NO_MEMORY;
+    else if (is_child)
         failure = why_not(become_run(wanted, argv));
     else
-        failure = begin_again(wanted, self, argv);
+        failure = begin_again(wanted, self, words, argv);
 }
 
 static bool is_at_terminal(void)

@@ -18,6 +18,7 @@
 #include "process/preload_choice.h"
 #include "environment/orphan.h"
 #include "process/own_run.h"
+#include "process/run_connection.h"
 #include "process/threads.h"
 #include "environment/hub_word.h"
 #include "shadow/mapping.h"
@@ -86,7 +87,7 @@ __attribute__((constructor)) static void note_main(void)
    parent's stack. */
 static void leave_vfork(void)
 {
-    stack_frames_left((uintptr_t)__builtin_frame_address(0));
+    stack_left_by_child((uintptr_t)__builtin_frame_address(0));
 }
 
 /* What the recorder's lines name: where the stream goes. */
@@ -203,7 +204,11 @@ void recorder_start(void)
     side_know_generation(generation);
     heap_unlock();
     if (!atomic_load(&stream_page.stream.is_idle))
-        fake_stack_start(process.settings.use_after_return);
+        fake_stack_start(process.settings.use_after_return ? FRAMES_GIVEN
+                         : process.settings.says_returns   ? FRAMES_REFUSED
+                                                           : FRAMES_NEVER);
+    if (process.settings.root == (uint64_t)self_process() && recorder_hub() != NULL)
+        run_connection_begin(recorder_hub());
     hub_word_expect_no_more(recorder_hub());
 }
 
@@ -277,6 +282,12 @@ bool recorder_go_full(void)
     return is_full;
 }
 
+bool recorder_is_absent(void)
+{
+    return atomic_load_explicit(&stream_page.stream.is_idle, memory_order_relaxed) && recorder_hub() == NULL
+           && !recorder_halts() && !waits();
+}
+
 bool recorder_checks_libraries(void)
 {
     return process.settings.checks_libraries;
@@ -284,7 +295,7 @@ bool recorder_checks_libraries(void)
 
 void recorder_say_child(void)
 {
-    static const char why[] = "it was not made by fork, but by _Fork or clone";
+    static const char why[] = "it was not made by fork, but by a call of the system";
     state_forget();
     if (process.settings.hub == NULL)
         recorder_say("a child is not recorded: ", output_name(), why);
@@ -376,7 +387,7 @@ static bool forks_recorded(void)
 }
 
 /* The handlers of a fork are not given its result: but if it fails it sets errno, and nothing comes between. */
-static void before_fork(void)
+void recorder_fork_begins(void)
 {
     uint64_t generation = generation_now();
     bool is_inside = heap_is_entered();
@@ -390,7 +401,7 @@ static void before_fork(void)
     errno = 0;
 }
 
-static void after_fork_in_parent(void)
+void recorder_fork_ends(void)
 {
     if (errno == 0) {
         if (forks_recorded())
@@ -418,8 +429,9 @@ static void say_unrecorded(const char *why)
         recorder_say("a forked child is not recorded: ", output_name(), why);
 }
 
-/* One thread is there, with the locks that before_fork took: the child begins a recording of its own, or none. */
-static void after_fork_in_child(void)
+/* One thread is there, with the locks that recorder_fork_begins took: the child begins a recording of its own, or
+   none. */
+void recorder_child_begins(void)
 {
     bool recorded = forks_recorded();
     struct disturbance before;
@@ -432,6 +444,7 @@ static void after_fork_in_child(void)
     walks_are_alone();
     say_again();
     stream_forget();
+    run_connection_forget();
     stream_unlock();
     undisturbed_begin(&before);
     if (recorded && why_unrecorded() != NULL) {
@@ -448,5 +461,5 @@ static void after_fork_in_child(void)
 
 void recorder_watch_forks(void)
 {
-    library.__register_atfork(before_fork, after_fork_in_parent, after_fork_in_child, NULL);
+    library.__register_atfork(recorder_fork_begins, recorder_fork_ends, recorder_child_begins, NULL);
 }

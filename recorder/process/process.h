@@ -6,8 +6,8 @@
    recorder_end_waiting by preload_wait.c, recorder_go_full by callbacks.c; to end, recorder_exit by start.c and
    hooks.c, recorder_finish by halt.c and root.c, recorder_finish_in_handler by the handler in signals.c alone; around
    an exec, recorder_before_exec by exec_notice.c and recorder_exec_failed by exits.c. recorder_say_child by places.c
-   (`above`), recorder_say_who by preload_wait.c. The rest are questions, of any file. The C library calls the handlers
-   of a fork.
+   (`above`), recorder_say_who by preload_wait.c. The C library calls the three of a
+   fork as its handlers, and exits.c around a fork of which it knows nothing. The rest are questions, of any file.
    Lock: the caller has none of the recorder's, except that recorder_say_child and the questions take none, and any may
    be held. To begin takes the allocator's and then the stream's (README.md has the order), but not if a handler has
    interrupted the allocator. To end takes the stream's. If a handler that has interrupted the allocator has freed
@@ -27,6 +27,11 @@ struct settings;
 void recorder_start(void);
 /* Forks of the process are seen from now on. */
 void recorder_watch_forks(void);
+/* Around a fork: before it, and after it in the parent, which errno tells of a failure, and in the child. The locks are
+   kept from the first to the others. */
+void recorder_fork_begins(void);
+void recorder_fork_ends(void);
+void recorder_child_begins(void);
 /* Says of a child that it is not recorded, which no fork has announced: at its first record. */
 void recorder_say_child(void);
 /* Whether ASANCOL_HALT=2 has put off the recording until the first fault. */
@@ -49,6 +54,9 @@ const char *recorder_hub(void);
 bool recorder_go_full(void);
 /* Whether calls that plain libraries make are checked, by its settings. */
 bool recorder_checks_libraries(void);
+/* Whether nothing is recorded, nor will be, and nobody wants to know of the process. Then nothing is to be done at its
+   end: a filter of the program's may allow it no other call than that. */
+bool recorder_is_absent(void);
 /* At an end without handlers. In a child of vfork nothing is ended but its frames. */
 void recorder_finish(enum finish finish);
 /* At an exit. `is_last`: none of the process's handlers and destructors is still to come. */

@@ -1,8 +1,9 @@
-/* One question at the socket where processes ask. Its answer comes with no limit of time: the run ends before us if it
+/* One question to the run (run_connection.h). The answer comes with no limit of time: the run ends before us if it
    must. */
 #define _GNU_SOURCE
 #include "process/root.h"
 
+#include <errno.h>
 #include <limits.h>
 #include <stdatomic.h>
 #include <string.h>
@@ -12,14 +13,13 @@
 #include "base/say.h"
 #include "base/self.h"
 #include "base/system.h"
-#include "common/hub_name.h"
-#include "environment/asking.h"
 #include "environment/other_threads.h"
 #include "environment/settings.h"
 #include "environment/startup.h"
 #include "heap/heap.h"
-#include "process/world.h"
 #include "process/process.h"
+#include "process/run_connection.h"
+#include "process/world.h"
 #include "stream/sending.h"
 
 /* What asancol-run ends with if it has not seen a process to its end. */
@@ -27,11 +27,12 @@ enum { NOT_SEEN = 98 };
 
 static _Atomic bool has_asked, is_asking;
 static _Atomic int answered = STATUS_STAYS, held; /* the signal that waits for the answer, or 0 */
+static _Atomic int quick_status = -1;
 
 static bool is_root(void)
 {
     uint64_t root = recorder_settings()->root;
-    return root != 0 && root == (uint64_t)system_getpid() && recorder_hub() != NULL && recorder_is_own_process();
+    return root != 0 && root == (uint64_t)self_process() && recorder_hub() != NULL && recorder_is_own_process();
 }
 
 /* A text of digits, or any other: STATUS_STAYS. */
@@ -45,16 +46,32 @@ static int number_of(const char *text)
 
 static int ask_for_status(int status)
 {
-    char request[64] = ASK_STATUS "\n", answer[16], digits[DIGITS_ROOM];
+    char request[64] = "\n", answer[16], digits[DIGITS_ROOM];
     strcat(request, put_digits(digits + sizeof digits, (uint64_t)status, 1));
-    long length = ask_for(recorder_hub(), request, true, answer, sizeof answer - 1, INT_MAX);
+    long length = run_connection_ask(recorder_hub(), request, answer, sizeof answer - 1);
     if (length > 0) {
         answer[length] = 0;
         return number_of(answer);
     }
+    bool is_over = length == 0 || length == -EPIPE || length == -ECONNRESET || length == -ECONNREFUSED;
     recorder_say("the end was not checked: ", startup_name(),
-                 length == 0 ? "its run has ended before it, or was ended" : "its run can't be asked for the status");
-    return length == 0 ? NOT_SEEN : STATUS_STAYS;
+                 is_over ? "its run has ended before it, or was ended" : "its run can't be asked for the status");
+    return is_over || run_connection_was_made() ? NOT_SEEN : STATUS_STAYS;
+}
+
+void root_note_quick_exit(int status)
+{
+    atomic_store(&quick_status, status & UCHAR_MAX);
+}
+
+int root_quick_status(void)
+{
+    return atomic_load(&quick_status);
+}
+
+bool root_is_to_ask(void)
+{
+    return is_root() && !atomic_load(&has_asked);
 }
 
 /* Asks the run, once. It answers as root_end_at_exit. */
@@ -85,7 +102,7 @@ bool root_holds(int number)
 }
 
 /* A thread that stands still may hold any lock but that of the allocator: nothing but system calls is made. */
-int root_end_at_exit(int status)
+int root_end_at_exit(int status, bool is_end)
 {
     struct disturbance before;
     if (!is_root() || !has_other_threads() || heap_is_entered())
@@ -93,9 +110,9 @@ int root_end_at_exit(int status)
     recorder_finish(FINISH_CLOSED); /* else it would go on until they are gone */
     undisturbed_begin(&before);
     heap_lock();
-    bool is_stopped = world_stop() == NULL;
+    bool is_stopped = world_stop(is_end) == NULL;
     int ends_with = end_once(status);
-    if (is_stopped)
+    if (is_stopped && !is_end)
         world_go_on();
     heap_unlock();
     undisturbed_end(&before);

@@ -3,8 +3,9 @@
 
    Called: root_end_by_signal and root_holds by signals.c, in the handler of a signal that ends the process, in any
    thread; root_end_at_exit by start.c, hooks.c and halt.c, when nothing is recorded any more, in the thread that ends
-   the process, also in a handler. Lock: the caller has none; root_end_at_exit holds the allocator's while other threads
-   stand still. It asks over a connection of its own. */
+   the process, also in a handler; root_is_to_ask and root_quick_status by start.c, there too; root_note_quick_exit by
+   the program (hooks.def). Lock: the caller has none; root_end_at_exit holds the allocator's while it asks, if there
+   are other threads. */
 #ifndef ASANCOL_ROOT_H
 #define ASANCOL_ROOT_H
 
@@ -14,8 +15,13 @@ enum { STATUS_STAYS = -1 };
 
 /* Answers the status with which the process is to end in place of its own, which is as of waitpid; or STATUS_STAYS, as
    at once if it is none of those or has asked before. At an exit: other threads stand still meanwhile, and stay so if
-   the process is to end here. */
-int root_end_at_exit(int status);
+   this is the end (world.h). */
+int root_end_at_exit(int status, bool is_end);
+/* Whether that will ask. */
+bool root_is_to_ask(void);
+/* quick_exit was called with this status; and that status, or -1: nobody has seen it. */
+void root_note_quick_exit(int status);
+int root_quick_status(void);
 /* The same for a signal, also after the question: the answer may have come by then. */
 int root_end_by_signal(int number);
 /* Whether a signal that would end the process waits for the answer: the first one does. */

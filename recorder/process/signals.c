@@ -21,6 +21,7 @@
 #include "process/root.h"
 #include "process/signal_stack.h"
 #include "shadow/mapping.h"
+#include "stacks/own_stack.h"
 #include "stream/faults.h"
 #include "stream/keeping.h"
 #include "stream/side.h"
@@ -149,11 +150,24 @@ static void note_last(int number, const struct met *met)
 
 /* Faults in the recorder's own code. The process is to die of them, and to say so. */
 
-/* Not if the stack is used up, when it is the program that has called too deep, and not at its wild pointer. */
-static bool is_inside(int number, const siginfo_t *info, const struct met *met)
+/* How much of the first thread's stack may be used up for what lies above it. */
+enum { ABOVE_STACK = 1 << 18 };
+
+/* Whether the thread's own stack has room where the fault is, so that it can't be read by a right that it lacks. */
+static bool has_room(uint64_t address)
 {
-    return is_fault(number, info) && !(met->how & SIDE_STACK_USED_UP) && !is_in_guard(met->address)
-           && own_code_has(met->registers.instruction, met->registers.frame);
+    return is_of_own_stack(address) && address - stack_low() > (own_stack.may_grow ? ABOVE_STACK : 0);
+}
+
+/* Not if the stack is used up, when it is the program that has called too deep, and not at its wild pointer. */
+static bool is_inside(int number, const siginfo_t *info, struct met *met)
+{
+    if (!is_fault(number, info) || is_in_guard(met->address)
+        || !own_code_has(met->registers.instruction, met->registers.frame))
+        return false;
+    if (has_room(met->address))
+        met->how &= ~(uint32_t)SIDE_STACK_USED_UP;
+    return !(met->how & SIDE_STACK_USED_UP);
 }
 
 /* No lock is waited for without an end, since this thread may have it. Noting the stack may cause the same fault again:
@@ -313,13 +327,14 @@ static void handle_default(int number, uint64_t mask, bool at_once)
 
 void signals_handle(void)
 {
-    uint64_t set = 0;
+    uint64_t set = 0, pending = 0;
+    system_sigpending(&pending); /* a handler in the place of SIG_IGN would take them away */
     signal_stack_of_first();
     for (unsigned i = 0; i < FAULTS; i++)
         set |= signal_bit(faults[i]);
     for (int number = 1; number <= LAST_SIGNAL; number++)
         if (ends_process(number))
-            handle_default(number, ~set, library_is_alone() && number != SIGBUS);
+            handle_default(number, ~set, library_is_alone() && number != SIGBUS && !(pending & signal_bit(number)));
     undisturbed_by_faults(set);
     has_handlers = true;
 }
@@ -331,6 +346,18 @@ extern int real_sigaction(int, const struct sigaction *, struct sigaction *) NAM
 extern int real_sigaction(int, const struct sigaction *, struct sigaction *) NAMED("__real_sigaction");
 #endif
 
+/* What the program has set together with a default, and may ask for. */
+static struct {
+    _Atomic int flags;
+    _Atomic uint64_t mask;
+} with_default[LAST_SIGNAL + 1];
+
+static void keep_with_default(int number, const struct sigaction *action)
+{
+    atomic_store(&with_default[number].flags, action->sa_flags);
+    atomic_store(&with_default[number].mask, action->sa_mask.__val[0]);
+}
+
 /* The action set in place of the program's. */
 static void take_place(int number, struct sigaction *action)
 {
@@ -339,6 +366,7 @@ static void take_place(int number, struct sigaction *action)
         action->sa_sigaction = before_handler;
         action->sa_flags |= SA_SIGINFO;
     } else if (action->sa_handler == SIG_DFL && ends_process(number)) {
+        keep_with_default(number, action);
         *action = (struct sigaction){.sa_sigaction = on_ending, .sa_flags = ACTION_FLAGS | SA_NODEFER};
         __builtin_memset(&action->sa_mask, 0xff, sizeof action->sa_mask);
         for (unsigned i = 0; i < FAULTS; i++)
@@ -347,12 +375,12 @@ static void take_place(int number, struct sigaction *action)
 }
 
 /* What the program had set before. */
-static void put_old(struct sigaction *old, uintptr_t handler, bool wants_info)
+static void put_old(struct sigaction *old, uintptr_t handler, bool wants_info, const struct sigaction *by_default)
 {
     if (!(old->sa_flags & SA_SIGINFO))
         return;
     if (old->sa_sigaction == on_ending)
-        *old = (struct sigaction){.sa_handler = SIG_DFL};
+        *old = *by_default;
     if (old->sa_sigaction != before_handler)
         return;
     old->sa_sigaction = (void (*)(int, siginfo_t *, void *))handler;
@@ -365,8 +393,13 @@ OF_PROGRAM int signals_set_action(int number, const struct sigaction *action, st
     unsigned place = place_of(number);
     uintptr_t before = place < FAULTS ? atomic_load(&of_program[place].handler) : 0;
     bool wanted_info = place < FAULTS && atomic_load(&of_program[place].wants_info);
-    struct sigaction ours;
-    if (action != NULL && has_handlers) {
+    struct sigaction ours, by_default = {.sa_handler = SIG_DFL};
+    bool is_number = number > 0 && number <= LAST_SIGNAL;
+    if (is_number) {
+        by_default.sa_flags = atomic_load(&with_default[number].flags);
+        by_default.sa_mask.__val[0] = atomic_load(&with_default[number].mask);
+    }
+    if (action != NULL && has_handlers && is_number) {
         ours = *action;
         take_place(number, &ours);
         if (place < FAULTS && ours.sa_sigaction == before_handler) { /* from now on: the old one may come so too */
@@ -377,6 +410,6 @@ OF_PROGRAM int signals_set_action(int number, const struct sigaction *action, st
     }
     int result = real_sigaction(number, action, old);
     if (result == 0 && old != NULL)
-        put_old(old, before, wanted_info);
+        put_old(old, before, wanted_info, &by_default);
     return result;
 }

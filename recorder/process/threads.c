@@ -14,10 +14,14 @@
 #include <unwind.h>
 
 #include "environment/startup.h"
+#include "process/init_order.h"
 #include "process/signal_stack.h"
+#include "process/waiting.h"
 #include "libc/library.h"
 #include "heap/heap.h"
+#include "base/filters.h"
 #include "base/behind.h"
+#include "base/memory.h"
 #include "base/own_code.h"
 #include "base/platform.h"
 #include "base/self.h"
@@ -27,14 +31,11 @@
 #include "stacks/own_stack.h"
 #include "stacks/stacks.h"
 #include "stacks/thread_notes.h"
+#include "stacks/unwinding.h"
 #include "stacks/walks.h"
 #include "stream/state.h"
 #include "base/system.h"
-
-/* A stack that is not known is cleared so far upwards, or to the end of the block that it lies in. */
-enum { UNKNOWN_REACH = 8 << 20 };
-/* What a thread has above its frames, and its guard below. */
-enum { STACK_MARGIN = 4 * PAGE };
+#include "base/tables.h"
 
 /* Of a stack in a block nothing beyond the block: there are others. */
 static void clear(struct span frames)
@@ -52,11 +53,6 @@ static void clear_own_stack(void)
 {
     if (own_stack.top != 0)
         shadow_clear(own_stack.low, own_stack.top - own_stack.low);
-}
-
-static bool is_in(struct span span, uintptr_t address)
-{
-    return address >= span.low && address < span.top;
 }
 
 /* Other stacks, as far as the program has said where they lie: to which one this thread has switched, and from where on
@@ -137,27 +133,80 @@ static bool leave_vforked(uintptr_t frame)
     return is_same;
 }
 
-void stack_frames_left(uintptr_t frame)
+#ifndef IS_STATIC
+static void own_Unwind_SetIP(struct _Unwind_Context *context, _Unwind_Ptr address);
+#endif
+
+/* Whether what leaves frames comes by here: no jump that the compiler makes itself, behind the call from which this is
+   called; and nothing in a static program, or no exception with an unwinder of its own. */
+static bool is_seen(uintptr_t frame)
 {
-    uintptr_t here = frame / PAGE * PAGE;
+#ifdef IS_STATIC
+    (void)frame;
+    return false;
+#else
+    unsigned char code[JUMP_CODE] = {0};
+    struct known_page page = {0};
+    uintptr_t next = CODE_ADDRESS(((const uintptr_t *)frame)[1]);
+    memcpy(code, (const void *)next, memory_is_there(&page, next, sizeof code) ? sizeof code : PAGE - next % PAGE);
+    return !processor_jumps(code) && (uintptr_t)&_Unwind_SetIP == (uintptr_t)&own_Unwind_SetIP;
+#endif
+}
+
+/* All frames from here up, of the stack that the thread has switched to. */
+static void clear_switched(uintptr_t frame)
+{
+    struct frames_between between;
+    if (is_in(switched, frame)) {
+        clear((struct span){frame, switched.top});
+        return;
+    }
+    unwind_to(frame, 0, &between);
+    clear(between.pieces[0]);
+#ifdef IS_STATIC
+    clear_own_stack(); /* a jump, which goes there, is not seen */
+#endif
+}
+
+/* Nothing is recorded, so redzones that stay cost time alone. A call of the system may cost more: a filter of the
+   program's may allow it none. */
+static void leave_unrecorded(uintptr_t frame)
+{
+    if (is_on_own_stack(frame))
+        shadow_clear(frame / PAGE * PAGE, own_stack.top - frame / PAGE * PAGE);
+}
+
+/* `is_call`: it is a call of the compilers', and what leaves frames may come by here once more, with its target. */
+static void left_from(uintptr_t frame, bool is_call)
+{
     struct span all;
+    if (atomic_load_explicit(&stream_page.stream.is_idle, memory_order_relaxed)) {
+        leave_unrecorded(frame);
+        return;
+    }
     leave_fakes(frame);
     if (leave_vforked(frame))
         return;
     if (is_on_handlers_stack(frame, &all)) {
         clear(all);
-        clear(switched);
         clear_own_stack();
     } else if (is_on_own_stack(frame)) {
+        uintptr_t here = frame / PAGE * PAGE;
         shadow_clear(here, own_stack.top - here);
-    } else if (is_in(switched, frame)) {
-        clear((struct span){here > switched.low ? here : switched.low, switched.top});
-    } else {
-        clear((struct span){is_in_arena(frame) ? frame : here, here + UNKNOWN_REACH});
-#ifdef IS_STATIC
-        clear_own_stack(); /* a jump, which goes there, is not seen */
-#endif
+    } else if (!is_call || !is_seen(frame)) {
+        clear_switched(frame);
     }
+}
+
+/* Of a stack that the thread has switched to most frames may go on. */
+void stack_frames_left(uintptr_t frame)
+{
+    left_from(frame, true);
+}
+
+void stack_left_by_child(uintptr_t frame)
+{
+    left_from(frame, false);
 }
 
 /* The frames below the place where a jump or a switch has come back to this thread's own stack. */
@@ -167,62 +216,41 @@ static void come_back(uintptr_t frame, uintptr_t from, uintptr_t target)
         shadow_clear(from, target - from);
 }
 
-/* Redzones of a coroutine that waits are kept here, so that its stack is clear until it goes on: it may be left for
-   good, and its memory is an array again. By its stack pointer; whoever finds a place busy does without it. */
-
-enum { KEPT = 512, KEPT_BYTES = 1000, KEPT_BUSY = 1 };
-static AS_TABLE struct {
-    _Atomic uintptr_t frame; /* 0: it is free */
-    uint32_t size;
-    unsigned char shades[KEPT_BYTES];
-} kept[KEPT];
-
-static size_t place_for(uintptr_t frame)
-{
-    return frame * UINT64_C(0x9e3779b97f4a7c15) >> 55;
-}
-
-_Static_assert(KEPT == 1 << (64 - 55), "as places are made");
-
-static void keep(struct span frames)
-{
-    size_t place = place_for(frames.low), size = (frames.top - frames.low) / GRANULE;
-    if (atomic_exchange(&kept[place].frame, KEPT_BUSY) == KEPT_BUSY)
-        return;
-    kept[place].size = (uint32_t)(size < KEPT_BYTES ? size : KEPT_BYTES);
-    memcpy(kept[place].shades, (const void *)shadow_of(frames.low), kept[place].size);
-    atomic_store(&kept[place].frame, frames.low);
-}
-
-/* Gives a coroutine that goes on its redzones again. False: none were kept for this stack pointer. */
-static bool put_back(uintptr_t frame)
-{
-    size_t place = place_for(frame);
-    uintptr_t expected = frame;
-    if (!atomic_compare_exchange_strong(&kept[place].frame, &expected, KEPT_BUSY))
-        return false;
-    volatile unsigned char *shades = shadow_of(frame);
-    for (uint32_t i = 0; i < kept[place].size; i++)
-        if (shades[i] == 0)
-            shades[i] = kept[place].shades[i];
-    atomic_store(&kept[place].frame, 0);
-    return true;
-}
-
 /* The newest stacks that contexts were made on: a switch may not say where a stack lies. Whoever changes one makes it
-   empty first. */
-enum { MADE = 256 };
-static AS_TABLE struct {
+   empty first. For pages that were looked for it is noted where the stack was found. */
+enum { MADE = 1 << 12, HINTS = 1 << 12 };
+static struct made_stack {
     _Atomic uintptr_t low, top;
-} made[MADE];
+} *const made = TABLE(struct made_stack, contexts_made);
+TABLE_HAS_ROOM(contexts_made, MADE * sizeof *made);
+static _Atomic size_t made_count; /* so often one was added */
+static _Atomic uint16_t *const hints = TABLE(_Atomic uint16_t, context_hints);
+TABLE_HAS_ROOM(context_hints, HINTS * sizeof *hints);
+
+static size_t made_used(void)
+{
+    size_t count = atomic_load_explicit(&made_count, memory_order_relaxed);
+    return count < MADE ? count : MADE;
+}
+
+static bool is_made(size_t number, uintptr_t address, struct span *span)
+{
+    *span = (struct span){atomic_load(&made[number].low), atomic_load(&made[number].top)};
+    return is_in(*span, address) && atomic_load(&made[number].low) == span->low;
+}
 
 static struct span made_around(uintptr_t address)
 {
-    for (size_t i = 0; i < MADE; i++) {
-        struct span span = {atomic_load(&made[i].low), atomic_load(&made[i].top)};
-        if (is_in(span, address) && atomic_load(&made[i].low) == span.low)
+    _Atomic uint16_t *hint = &hints[address / PAGE % HINTS];
+    size_t used = made_used();
+    struct span span;
+    if (used != 0 && is_made(atomic_load_explicit(hint, memory_order_relaxed), address, &span))
+        return span;
+    for (size_t i = 0; i < used; i++)
+        if (is_made(i, address, &span)) {
+            atomic_store_explicit(hint, (uint16_t)i, memory_order_relaxed);
             return span;
-    }
+        }
     return (struct span){0, 0};
 }
 
@@ -237,22 +265,17 @@ bool stack_is_own_frame(uintptr_t frame)
 
 void stack_begins(struct span all)
 {
-    static _Atomic size_t next;
-    size_t number = MADE;
+    size_t number = MADE, used = made_used();
     clear(all);
     fake_context_begins(all.low, all.top);
-    for (size_t i = 0; i < KEPT; i++) {
-        uintptr_t frame = atomic_load_explicit(&kept[i].frame, memory_order_relaxed);
-        if (is_in(all, frame))
-            atomic_compare_exchange_strong(&kept[i].frame, &frame, 0);
-    }
-    for (size_t i = 0; i < MADE; i++)
+    waiting_forget(all);
+    for (size_t i = 0; i < used; i++)
         if (is_in(all, atomic_load(&made[i].low))) {
             atomic_store(&made[i].top, 0);
             number = i;
         }
     if (number == MADE)
-        number = atomic_fetch_add(&next, 1) % MADE;
+        number = atomic_fetch_add(&made_count, 1) % MADE;
     atomic_store(&made[number].top, 0);
     atomic_store(&made[number].low, all.low);
     atomic_store(&made[number].top, all.top);
@@ -265,20 +288,11 @@ static void jump_within(const struct stack_switch *it)
         clear((struct span){it->frame, it->target});
 }
 
-/* What a switch keeps of a context lies below its frame, if it keeps any there. */
-static void go_on(uintptr_t target)
+static void leave(struct span stack_left, uintptr_t frame, bool goes_on)
 {
-    enum { MOST_KEPT = 128 };
-    for (uintptr_t frame = target; frame < target + MOST_KEPT; frame += sizeof frame)
-        if (put_back(frame))
-            return;
-}
-
-static void leave(struct span stack_left, const struct stack_switch *it)
-{
-    if (it->goes_on)
-        keep((struct span){it->frame, stack_left.top});
-    clear((struct span){it->frame, stack_left.top});
+    if (goes_on)
+        waiting_keep(stack_left, frame);
+    clear((struct span){frame, stack_left.top});
 }
 
 /* Which stack it goes to. On a thread's own there may have been an array that was made one, in a frame that is gone. */
@@ -298,12 +312,12 @@ void stack_switches(const struct stack_switch *it)
         return;
     }
     if (from.top != 0)
-        leave(from, it);
+        leave(from, it->frame, it->goes_on);
     else if (was_own)
         left_at = it->frame;
     switched = to;
     if (to.top != 0)
-        go_on(it->target);
+        waiting_put_back(to, it->target);
     else if (is_on_own_stack(it->target) && was_own)
         jump_within(it);
     else if (is_on_own_stack(it->target))
@@ -341,6 +355,7 @@ struct start {
     void *argument;
     size_t size; /* of its stack */
     unsigned number;
+    const struct filter *filters;
 };
 
 enum { STARTS = 256 };
@@ -361,14 +376,26 @@ static void end_thread(void *unused)
     heap_thread_ends();
 }
 
+/* The first whole page of a stack of this size, below the page `most`. At the stack's end lies the thread-local memory,
+   which may be larger than all that is left for frames. */
+static uintptr_t low_of_thread(uintptr_t size, uintptr_t most)
+{
+    size_t local_size = 0, alignment;
+    if (library._dl_get_tls_static_info != NULL)
+        library._dl_get_tls_static_info(&local_size, &alignment);
+    uintptr_t end = LOCAL_END(processor_thread_pointer(), local_size, library_control_size());
+    uintptr_t low = page_above(end - size - 1);
+    return low < most ? low : most;
+}
+
 /* In a thread that begins in this frame. Answers what it is to do. */
 static struct start begin_thread(struct start *start, void *frame)
 {
     struct start copy = {.routine = start->routine, .argument = start->argument};
-    uintptr_t size = start->size > 2 * STACK_MARGIN ? start->size : 2 * STACK_MARGIN;
     thread_begins(start->number);
+    filters_inherit(start->filters);
     own_stack.top = page_above((uintptr_t)frame);
-    own_stack.low = own_stack.top - size + STACK_MARGIN;
+    own_stack.low = low_of_thread(start->size, own_stack.top - PAGE);
     if (is_in_arena(own_stack.low) && heap_end_around(own_stack.low) < own_stack.top)
         own_stack.top = heap_end_around(own_stack.low) / GRANULE * GRANULE;
     /* What the C library keeps of a thread lies at the upper end of its stack. */
@@ -446,11 +473,13 @@ static struct start *prepare(const pthread_attr_t *attributes, void *argument, u
 {
     bool is_idle = atomic_load_explicit(&stream_page.stream.is_idle, memory_order_relaxed);
     atomic_store_explicit(&threads_started, true, memory_order_relaxed);
+    init_order_ends();
     unsigned number = thread_create(is_idle ? 0 : call_site_of(caller));
     struct start *start = atomic_load(&has_key) ? take_start() : NULL;
     if (start == NULL)
         return NULL;
     start->argument = argument;
+    start->filters = filters_own();
     start->size = stack_size(attributes);
     start->number = number;
     return start;
@@ -537,19 +566,85 @@ static OF_PROGRAM uintptr_t target_of(const void *to)
 #endif
 }
 
-/* A jump of the program leaves the frames below its target. */
-static void frames_left_by_jump(uintptr_t frame, uintptr_t target)
+/* All frames between this one of the recorder's and a target that one of its callers has: on another stack, those of
+   handlers for instance, up to where it was left, too. In the frame that goes on it may be a scope that goes on. False:
+   nothing is known of the way there. */
+static bool clear_between(uintptr_t frame, uintptr_t target)
 {
-    stack_frames_left(frame);
-    heap_left_by_jump(target);
-    leave_fakes(target);
-    if (is_in(switched, target)) {
-        if (!is_in(switched, frame) || frame > target)
-            clear((struct span){switched.low, target});
-    } else if (is_on_own_stack(target)) {
-        come_back(frame, own_stack.low, target);
-        switched = (struct span){0, 0};
+    struct frames_between between;
+    if (!unwind_to(frame, target, &between))
+        return false;
+    for (unsigned i = 0; i < between.count; i++)
+        clear(between.pieces[i]);
+    for (uintptr_t at = target; at < between.end; at += GRANULE)
+        if (*shadow_of(at) == SHADE_SCOPE)
+            *shadow_of(at) = 0;
+    return true;
+}
+
+/* The stack that an address is on, if it is not the thread's own; zeros: that is not known. */
+static struct span stack_around(uintptr_t address)
+{
+    if (is_in(switched, address))
+        return switched;
+    return is_on_own_stack(address) ? (struct span){0, 0} : made_around(address);
+}
+
+/* From the stack of handlers to a frame that is none of those that were interrupted, or not known to be one. False: it
+   goes to another stack. */
+static bool handlers_left(uintptr_t frame, uintptr_t target, struct span handlers)
+{
+    clear((struct span){frame, is_in(handlers, target) ? target : handlers.top});
+    if (is_in(handlers, target))
+        return true;
+    if (is_in(switched, target))
+        clear((struct span){switched.low, target});
+    else if (switched.top != 0)
+        leave(switched, switched.low, true);
+    return is_in(switched, target);
+}
+
+/* To a frame that goes on, or on one stack. False: it goes to another one. A jump may lead back into a scope. */
+static bool left_below(uintptr_t frame, uintptr_t target, struct span from, struct span to, bool is_jump)
+{
+    struct span handlers;
+    bool was_own = is_on_own_stack(frame);
+    if (was_own && is_on_own_stack(target) && frame < target) {
+        shadow_clear(frame, target - frame);
+        switched = to;
+        return true;
     }
+    bool was_handlers = is_on_handlers_stack(frame, &handlers), is_same = from.top != 0 && from.low == to.low;
+    bool is_way_asked = was_handlers || (is_same && is_jump) || (from.top == 0 && !was_own);
+    if (is_way_asked && clear_between(frame, target)) {
+        if (!was_handlers || !is_in(handlers, target))
+            switched = to;
+        return true;
+    }
+    if (was_handlers)
+        return handlers_left(frame, target, handlers);
+    if (is_same)
+        clear((struct span){frame, target});
+    return is_same;
+}
+
+/* The frames below the target of a jump, or of an exception. A stack that is left may go on by a jump back. */
+static void frames_left_below(uintptr_t frame, uintptr_t target, bool is_jump)
+{
+    struct span from = stack_around(frame), to = stack_around(target);
+    leave_fakes(frame);
+    leave_fakes(target);
+    if (leave_vforked(frame) || left_below(frame, target, from, to, is_jump))
+        return;
+    if (from.top != 0)
+        leave(from, frame, true);
+    else if (is_on_own_stack(frame))
+        left_at = frame;
+    if (to.top != 0)
+        waiting_put_back(to, target);
+    else if (is_on_own_stack(target))
+        come_back(frame, own_stack.low, target);
+    switched = to;
 }
 
 typedef void jump(void *, int);
@@ -567,7 +662,9 @@ static jump *find_jump(jump *_Atomic *real, const char *name)
     REPLACES _Noreturn void name(void *to, int value)                                                                  \
     {                                                                                                                  \
         jump *next = find_jump(&real_##name, #name);                                                                   \
-        frames_left_by_jump((uintptr_t)__builtin_frame_address(0), target_of(to));                                     \
+        uintptr_t target = target_of(to);                                                                              \
+        frames_left_below((uintptr_t)__builtin_frame_address(0), target, true);                                        \
+        heap_left_by_jump(target);                                                                                     \
         next(to, value);                                                                                               \
         __builtin_unreachable();                                                                                       \
     }
@@ -588,25 +685,27 @@ void threads_find_jumps(void)
 #endif
 }
 
-/* An exception that a library throws. */
-
-typedef _Unwind_Reason_Code raises(struct _Unwind_Exception *);
-
-#define UNWINDS(name)                                                                                                  \
-    REPLACES _Unwind_Reason_Code name(struct _Unwind_Exception *exception)                                             \
-    {                                                                                                                  \
-        static raises *_Atomic real;                                                                                   \
-        raises *next = atomic_load(&real);                                                                             \
-        if (next == NULL)                                                                                              \
-            atomic_store(&real, next = (raises *)(uintptr_t)library_next(#name));                                      \
-        if (next == NULL)                                                                                              \
-            return _URC_FATAL_PHASE1_ERROR;                                                                            \
-        stack_frames_left((uintptr_t)__builtin_frame_address(0));                                                      \
-        return next(exception);                                                                                        \
+/* An exception comes to a frame: to one that catches it, or that has something to do before it goes on. The personality
+   of a language calls this then. Where the stack pointer goes is the end of the frames that it leaves. */
+static void own_Unwind_SetIP(struct _Unwind_Context *context, _Unwind_Ptr address)
+{
+    typedef void set(struct _Unwind_Context *, _Unwind_Ptr);
+    typedef _Unwind_Word find(struct _Unwind_Context *);
+    static set *_Atomic real;
+    static find *_Atomic target;
+    if (atomic_load(&real) == NULL) {
+        atomic_store(&target, (find *)(uintptr_t)library_next("_Unwind_GetCFA"));
+        atomic_store(&real, (set *)(uintptr_t)library_next("_Unwind_SetIP"));
     }
+    find *find_target = atomic_load(&target);
+    if (find_target != NULL)
+        frames_left_below((uintptr_t)__builtin_frame_address(0), find_target(context), false);
+    set *next = atomic_load(&real);
+    next(context, address);
+}
 
-UNWINDS(_Unwind_RaiseException)
-UNWINDS(_Unwind_Resume_or_Rethrow)
+REPLACES void _Unwind_SetIP(struct _Unwind_Context *context, _Unwind_Ptr address)
+    __attribute__((alias("own_Unwind_SetIP")));
 
 #else
 

@@ -1,7 +1,7 @@
 /* The stacks of threads: their shadow, as frames are left and stacks change hands.
 
    Called: in the thread that the stack is of, also in a signal handler: stack_frames_left by variables.c before a call
-   that does not return, by process.c in a child of vfork, and here by jumps and throws; stack_vforks by exits.c;
+   that does not return; stack_left_by_child by process.c in a child of vfork; stack_vforks by exits.c;
    stack_switches and stack_begins by spaces.c; those of fibers by interface.c (these all by hooks.def); stack_has_frame
    by record.h and stack_is_own_frame by heap/entering.c (`above`). threads_visit_waiting by roots.c, while all other
    threads stand still. Not in a handler: thread_function_behind by plain.c, for dlsym; and what begins and ends a
@@ -17,6 +17,7 @@
 #include <stdint.h>
 
 #include "base/platform.h"
+#include "stacks/own_stack.h"
 
 /* At the start, by start.c: finds the library's jumps, since a handler may jump out of the allocator, and then must not
    wait for the loader's lock. */
@@ -26,15 +27,13 @@ void threads_find_jumps(void);
 bool stack_has_frame(uintptr_t frame, uintptr_t address) OWN_NAME(stack_has_frame);
 /* Whether it is on the thread's own stack, and on no other that lies in an array there. */
 bool stack_is_own_frame(uintptr_t frame);
-/* Frames from this one up may be left without their returns: in a child of vfork those below its parent's call. */
+/* Before a call that does not return: frames from this one up may be left without their returns; in a child of vfork
+   those below its parent's call. */
 void stack_frames_left(uintptr_t frame) OWN_NAME(stack_frames_left);
+/* The same at the end of a child of vfork. */
+void stack_left_by_child(uintptr_t frame);
 /* The thread calls vfork, with this stack pointer. */
 void stack_vforks(uintptr_t stack) OWN_NAME(stack_vforks);
-
-/* Where a stack lies, up to `top`; zeros if that is not known. */
-struct span {
-    uintptr_t low, top;
-};
 
 /* A switch to another context: the frame that it is made in, and the stack pointer to which it goes, or below that what
    the switch has kept there. */

@@ -20,6 +20,7 @@
 #include "heap/heap.h"
 #include "environment/asan_options.h"
 #include "environment/link_note.h"
+#include "environment/startup.h"
 #include "process/process.h"
 #include "base/memory.h"
 #include "base/platform.h"
@@ -192,8 +193,8 @@ static bool is_of_language(struct name name)
     return false;
 }
 
-/* Adds a module that asancol-cc did not link. */
-static void add_plain(struct list *list, const struct map_line *first, struct name name)
+/* Adds a module that asancol-cc did not link. A program is the user's, wherever it lies. */
+static void add_plain(struct list *list, const struct map_line *first, struct name name, bool is_program)
 {
 #ifndef IS_STATIC
     static const char off[] = "calls by libraries (ASANCOL_LIBRARIES=0)";
@@ -205,7 +206,7 @@ static void add_plain(struct list *list, const struct map_line *first, struct na
         add(list, "", unknown, sizeof unknown - 1);
 #endif
     if (!is_of_language(name))
-        add(list, is_of_system(first) ? "/" : "", name.text, name.length);
+        add(list, is_of_system(first) && !is_program ? "/" : "", name.text, name.length);
 }
 
 /* Adds what the link of a module has noted. */
@@ -233,8 +234,8 @@ static bool has_address(const struct map_line *line, const void *address)
     return line->start <= (uintptr_t)address && (uintptr_t)address < line->end;
 }
 
-/* A module whose file is mapped from this line on. */
-static void add_module(struct list *list, const struct map_line *first)
+/* A module whose file is mapped from this line on, and its code in a later one. */
+static void add_module(struct list *list, const struct map_line *first, const struct map_line *code)
 {
     static AS_TABLE char text[LINK_NOTE_ROOM + 1]; /* of who lists */
     struct module module;
@@ -251,7 +252,7 @@ static void add_module(struct list *list, const struct map_line *first)
         && memory_read(module.link.start, text, module.link.size))
         add_noted(list, text, name);
     else
-        add_plain(list, first, name);
+        add_plain(list, first, name, startup.entry != 0 && has_address(code, (const void *)startup.entry));
 }
 
 /* The malloc that the C library finds may turn out to take its blocks from the recorder's. */
@@ -299,7 +300,7 @@ void unchecked_list(char *lines, const char *maps)
         }
         /* A module that is mapped and never run is data. */
         if (line.is_code && !is_added && (line.is_first || maps_is_same_file(&line, &first))) {
-            add_module(&list, &first);
+            add_module(&list, &first, &line);
             look_for_second(&list, &first, &libraries);
             is_added = true;
         }

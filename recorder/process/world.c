@@ -1,7 +1,7 @@
-/* The others are stopped by a signal, and not by tracing them: that works under a debugger and where tracing is
-   forbidden. It is the signal by which the C library changes the user of all threads: the library lets no program block
-   it, and debuggers pass it on without a word. What the library itself sends by it goes on to the library's handler.
-   `world` has a slot for each thread that was asked to stop. */
+/* The others are stopped by a signal if they stay stopped, or can't be traced: that works under a debugger and where
+   tracing is forbidden. It is the signal by which the C library changes the user of all threads: the library lets no
+   program block it, and debuggers pass it on without a word. What the library itself sends by it goes on to the
+   library's handler. `world` has a slot for each thread that was asked to stop. */
 #define _GNU_SOURCE
 #include "process/world.h"
 
@@ -15,6 +15,8 @@
 #include "base/platform.h"
 #include "base/system.h"
 #include "environment/other_threads.h"
+#include "process/tracer.h"
+#include "stream/state.h"
 
 /* The state of a thread that was asked to stop. `context` is released by the thread, once it has stopped. */
 struct slot {
@@ -31,12 +33,15 @@ enum { PATIENCE_MS = 3000, DEAF_PATIENCE_MS = 30 };
 
 /* The allocator's lock guards all fields except the atomic ones. */
 static struct {
-    /* Grows when threads are to stop, and when they go on: it is odd in between. */
+    /* Grows when threads are to stop, and when they go on. Who comes late finds that the round is closed. */
     _Atomic uint32_t round;
+    _Atomic bool is_closed;
     struct slot *_Atomic slots;
     uint32_t first, count; /* those of this round, and up to where slots were used */
-    bool has_failed;
+    bool has_failed, has_late; /* a thread was not asked; one may still come to its slot */
     void (*_Atomic before)(int, siginfo_t *, void *); /* the handler that there was */
+    _Atomic pid_t stopper; /* the thread that has stopped the others; 0: none has */
+    bool is_traced;        /* they are stopped by the tracer */
 } world;
 
 uintptr_t world_own_control(void)
@@ -67,7 +72,7 @@ static void on_stop(int number, siginfo_t *info, void *context)
             before(number, info, context);
         return;
     }
-    if (atomic_load(&world.round) != round)
+    if (atomic_load(&world.round) != round || atomic_load(&world.is_closed))
         return;
     struct slot *slot = &atomic_load(&world.slots)[(uint32_t)asked];
     uintptr_t control = 0;
@@ -203,7 +208,6 @@ static const char *stop_all(void)
     }
 }
 
-/* The slots of a round in which a thread did not stop are not used again: it may come to its slot later. */
 static bool find_slots(void)
 {
     if (atomic_load(&world.slots) == NULL) {
@@ -232,37 +236,89 @@ static void give_signal_back(const struct system_action *old)
         action_set(USER_SIGNAL, old, NULL);
 }
 
-const char *world_stop(void)
+/* Most exits ask the system nothing. */
+bool world_is_stopped(void)
+{
+    pid_t stopper = atomic_load(&world.stopper);
+    return stopper != 0 && stopper == system_gettid();
+}
+
+static const char *stop(void)
 {
     struct system_action old;
-    world.has_failed = false;
-    world.count = world.first;
-    atomic_fetch_add(&world.round, 1);
     if (!has_other_threads())
         return NULL;
-    if (!find_slots()) {
-        world_go_on();
+    if (!find_slots())
         return "there is no memory for it";
-    }
-    const char *why = take_signal(&old) ? stop_all() : "the system takes no handler of the signal that stops threads";
-    if (why == NULL) {
+    if (!take_signal(&old))
+        return "the system takes no handler of the signal that stops threads";
+    const char *why = stop_all();
+    if (why == NULL)
         give_signal_back(&old);
+    return why;
+}
+
+const char *world_stop(bool is_end)
+{
+    if (world_is_stopped())
         return NULL;
-    }
-    world_go_on();
-    world.first = world.count;
+    if (world.has_late)
+        world.first = world.count;
+    world.count = world.first;
+    world.has_failed = false;
+    stream_lock();
+    atomic_store(&world.stopper, system_gettid());
+    atomic_store(&world.is_closed, false);
+    atomic_fetch_add(&world.round, 1);
+    const char *why = stop();
+    world.has_late = why != NULL;
+    atomic_store(&world.is_closed, world.has_late);
+    if (why != NULL && !is_end)
+        world_go_on();
+    stream_unlock();
     return why;
 }
 
 void world_go_on(void)
 {
+    atomic_store(&world.stopper, 0);
     atomic_fetch_add(&world.round, 1);
     if (world.count != world.first) /* that many were asked to stop */
         system_futex(&world.round, FUTEX_WAKE_PRIVATE, INT32_MAX);
 }
 
+struct work {
+    void (*work)(void *with);
+    void *with;
+};
+
+static void work_traced(void *of)
+{
+    const struct work *it = of;
+    world.is_traced = true;
+    it->work(it->with);
+    world.is_traced = false;
+}
+
+const char *world_stop_for(void (*work)(void *with), void *with, bool is_end)
+{
+    struct work it = {work, with};
+    if (!is_end && !world_is_stopped() && has_other_threads() && tracer_stop_for(work_traced, &it))
+        return NULL;
+    const char *why = world_stop(is_end);
+    if (why == NULL)
+        work(with);
+    if (why == NULL && !is_end)
+        world_go_on();
+    return why;
+}
+
 void world_visit(void (*visit)(const struct stopped_thread *thread))
 {
+    if (world.is_traced) {
+        tracer_visit(visit);
+        return;
+    }
     for (uint32_t i = world.first; i < world.count; i++) {
         struct slot *slot = slot_at(i);
         struct stopped_thread thread = {atomic_load(&slot->context), atomic_load(&slot->control)};

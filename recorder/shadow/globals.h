@@ -1,7 +1,7 @@
 /* The globals of the program and of its shared objects, as the compilers register them.
 
    Called: globals_note by interface/odr.c, for the constructors and destructors of modules, and globals_each by that
-   and by interface/init_order.c, in the thread that runs these. globals_find by stream/near.c and interface/, the
+   and by process/init_order.c, in the thread that runs these. globals_find by stream/near.c and interface/, the
    other two by stream/faults.c: in any thread, also in a handler. No lock: the tables' places are atomic, and their
    bytes, which may be gone, are read by memory_read. So results are copies. */
 #ifndef ASANCOL_GLOBALS_H

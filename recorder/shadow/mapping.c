@@ -17,6 +17,7 @@
 #include "shadow/shadow.h"
 
 #ifndef IN_SHARED_OBJECT
+#include "base/tables.h"
 #include "libc/library.h"
 #include "environment/orphan.h"
 #include "environment/settings.h"
@@ -45,6 +46,16 @@ static _Noreturn void fail(const char *why)
 
 static const char taken[] = "something else has its addresses";
 
+/* Why the system does not map it. No system refuses its addresses as invalid, but Valgrind keeps them for itself. */
+static const char *refusal(int error)
+{
+    if (error == EINVAL)
+        return "its addresses are refused, as by Valgrind, under which it cannot run";
+    if (error == ENOMEM)
+        return "address space is limited (ulimit -v or -d, or vm.overcommit_memory=2)";
+    return error_text(error);
+}
+
 #if MAY_BE_EMULATED
 
 /* As memory.c asks. */
@@ -62,9 +73,6 @@ static const char *map_part(uint64_t address, uint64_t bytes, int rights, bool *
 {
     void *at = (void *)address;
     long start = system_mmap(at, bytes, rights, MAP_FLAGS, -1, 0);
-    if (start < 0 && start != -EEXIST)
-        return start == -ENOMEM ? "address space is limited (ulimit -v or -d, or vm.overcommit_memory=2)"
-                                : error_text((int)-start);
     /* A system that does not know MAP_FIXED_NOREPLACE takes the address for a hint. */
 #if MAY_BE_EMULATED
     if (start > 0 && start != (long)at && is_there(address) && is_there(address + bytes - PAGE)) {
@@ -72,6 +80,8 @@ static const char *map_part(uint64_t address, uint64_t bytes, int rights, bool *
         start = -EEXIST;
     }
 #endif
+    if (start < 0 && start != -EEXIST)
+        return refusal((int)-start);
     if (start > 0 && start != (long)at)
         return taken;
     /* Where another object of the process came first, the whole range is mapped. If anything else has a part of it, the
@@ -202,26 +212,60 @@ static void advise_map(uint64_t map, int advice)
         system_madvise((void *)(map + it->start / GRANULE), it->size / GRANULE, advice);
 }
 
-/* What holds for both maps. If both are new nothing lies between them yet, and the system passes over that. */
+#ifdef IN_SHARED_OBJECT
+
+enum { TABLES_BYTES = 0 };
+#define TABLES HOOK_PAGE_START
+
+static inline const char *map_tables(void)
+{
+    return NULL;
+}
+
+#else
+
+enum { TABLES_BYTES = sizeof(struct tables) };
+
+/* They are of this recorder alone. */
+static const char *map_tables(void)
+{
+    bool is_new = false;
+    const char *why = map_part((uint64_t)TABLES, TABLES_BYTES, PROT_READ | PROT_WRITE, &is_new);
+    return why == NULL && !is_new ? taken : why;
+}
+
+#endif
+
+/* What holds for both maps and the tables. If both are new nothing lies between them yet, and the system passes over
+   that. */
 static void advise(bool are_new, int advice)
 {
+    uint64_t end = (uint64_t)TABLES + TABLES_BYTES;
     if (are_new && !MEMORY_VARIES) {
-        system_madvise((void *)SHADOW_START, STATED_START + STATED_BYTES - SHADOW_START, advice);
+        system_madvise((void *)SHADOW_START, end - SHADOW_START, advice);
         return;
     }
     advise_map(SHADOW_START, advice);
     advise_map(STATED_START, advice);
+    system_madvise((void *)TABLES, TABLES_BYTES, advice);
 }
 
-/* Maps the shadow and `stated`. Answers what went wrong, or null. */
-static const char *map_both(void)
+/* What shadow_map_early has mapped. */
+static struct {
+    bool shadow, is_new, page;
+} early;
+
+/* Maps the shadow, `stated` and the tables. Answers what went wrong, or null. */
+static const char *map_three(void)
 {
-    bool is_new, is_stated_new;
+    bool is_new = early.is_new, is_stated_new;
     const char *why = keep_hole_empty();
-    if (why == NULL)
+    if (why == NULL && !early.shadow)
         why = map_at(SHADOW_START, &is_new);
     if (why == NULL)
         why = map_at(STATED_START, &is_stated_new);
+    if (why == NULL)
+        why = map_tables();
     if (why != NULL)
         return why;
     advise(is_new && is_stated_new, MADV_DONTDUMP);
@@ -284,7 +328,7 @@ enum { HOOK_PAGE_FLAGS = MAP_PRIVATE | MAP_ANONYMOUS | MAP_FIXED_NOREPLACE };
 static const char *map_hook_page(void)
 {
     void *at = (void *)HOOK_PAGE_START;
-    long start = system_mmap(at, PAGE, PROT_READ | PROT_WRITE, HOOK_PAGE_FLAGS, -1, 0);
+    long start = early.page ? (long)at : system_mmap(at, PAGE, PROT_READ | PROT_WRITE, HOOK_PAGE_FLAGS, -1, 0);
 #if MAY_BE_EMULATED
     if (start > 0 && start != (long)at && is_there(HOOK_PAGE_START)) {
         system_munmap((void *)start, PAGE);
@@ -423,7 +467,7 @@ static const char *map_all(void)
 #ifndef IN_SHARED_OBJECT
     library_begin();
 #endif
-    why = map_both();
+    why = map_three();
     if (why == NULL)
         why = map_hook_page();
     if (why != NULL)
@@ -432,6 +476,20 @@ static const char *map_all(void)
     guard(STATED_START);
     return NULL;
 }
+
+#if !defined IN_SHARED_OBJECT && !defined IS_STATIC && !defined IS_PRELOAD
+
+void shadow_map_early(void)
+{
+    find_system();
+    if (misfit() != NULL)
+        return;
+    early.shadow = map_at(SHADOW_START, &early.is_new) == NULL;
+    early.page = system_mmap((void *)HOOK_PAGE_START, PAGE, PROT_READ | PROT_WRITE, HOOK_PAGE_FLAGS, -1, 0)
+                 == HOOK_PAGE_START;
+}
+
+#endif
 
 static bool is_mapped;
 

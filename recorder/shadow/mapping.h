@@ -1,11 +1,12 @@
-/* Where the shadow lies, and the page beside it. An object is the program or a shared object: each has this file.
+/* Where the shadow lies, the page beside it, and the tables (base/tables.h). An object is the program or a shared
+   object: each has this file.
 
-   Called: shadow_map by the first call into an object (start/, interface/variables.c, heap/arena.c),
-   shadow_try_to_map by process/preload_choice.c: in the thread of that call. There is no second one yet, or the
-   loader's lock is held, as when a shared object maps while it is relocated. shadow_switch and shadow_forked by
-   process/process.c with the allocator's lock, when a recording begins. is_in_guard by process/signals.c, in a
-   handler, and interface/describing.c; is_in_own_file by stacks/ and process/given.c, in any thread, also in a
-   handler. No lock: these two read constants. */
+   Called: shadow_map by the first call into an object (start/, interface/variables.c, heap/arena.c), shadow_map_early
+   by start/resolvers.c before that, shadow_try_to_map by process/preload_choice.c: in the thread of that call. There is
+   no second one yet, or the loader's lock is held, as when a shared object maps while it is relocated. shadow_switch
+   and shadow_forked by process/process.c with the allocator's lock, when a recording begins. is_in_guard by
+   process/signals.c, in a handler, and interface/describing.c; is_in_own_file by stacks/ and process/given.c, in any
+   thread, also in a handler. No lock: these two read constants. */
 #ifndef ASANCOL_MAPPING_H
 #define ASANCOL_MAPPING_H
 
@@ -16,6 +17,9 @@
 /* Maps all of this, once in a process, before any code of the compilers' that has a variable on its stack. Without
    room for them the process ends with status 127 and a line. */
 void shadow_map(void) OWN_NAME(shadow_map);
+/* Maps the shadow and the page, if there is room, for a program's calls and code that come before that. It calls the
+   system alone. */
+void shadow_map_early(void) OWN_NAME(shadow_map_early);
 /* The same for a preloaded recorder. False: there is no room, and the process goes on without it. */
 bool shadow_try_to_map(void);
 /* In a forked child, before its stream, which states nothing yet. */

@@ -83,12 +83,9 @@ bool shadow_is_clean_long(uint64_t address, uint64_t size)
         if (word != 0)
             return false;
     }
-    /* Those before the last one at once, and without what lies after them. */
-    if (at < last) {
-        __builtin_memcpy(&word, at, sizeof word);
-        if (word << (sizeof word - (size_t)(last - at)) * 8 != 0)
+    for (; at < last; at++)
+        if (*at != 0)
             return false;
-    }
     return *last == 0 || (*last < GRANULE && (address + size - 1) % GRANULE < *last);
 }
 

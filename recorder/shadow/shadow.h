@@ -105,7 +105,7 @@ enum {
     SHADE_USER = 0xf7,
     SHADE_SCOPE = 0xf8,
     SHADE_GLOBAL = 0xf9,
-    SHADE_UNINITIALISED = 0xf6, /* a global of another file that has no value yet (interface/init_order.c) */
+    SHADE_UNINITIALISED = 0xf6, /* a global of another file that has no value yet (process/init_order.c) */
     SHADE_CONTAINER = 0xfc,
     SHADE_FIELD = 0xbb, /* between the fields of a class */
     SHADE_COOKIE = 0xac,
@@ -181,6 +181,12 @@ static inline bool is_frame_in_block(uint64_t address, unsigned width)
     return shade != 0 && address % GRANULE + width > shade && is_of_frame(*shadow_of(address + GRANULE));
 }
 
+/* Whether an address is one of the last of the memory below the shadow: that of the shadow itself can't be read. */
+static inline bool is_before_shadow(uint64_t address, uint64_t size)
+{
+    return SHADOW_START - 1 - address < size;
+}
+
 /* Whether each byte of a region is addressable, of any region; */
 bool shadow_is_clean_long(uint64_t address, uint64_t size) OWN_NAME(shadow_is_clean_long);
 
@@ -190,7 +196,7 @@ static inline bool shadow_is_clean_short(uint64_t address, uint64_t size)
 {
     uint64_t word, within = address % GRANULE, last = within + size - 1;
     if (UNLIKELY(size - 1 >= sizeof word * GRANULE - within || address >= MEMORY_END - sizeof word * GRANULE
-                 || is_in_hole(address)))
+                 || is_before_shadow(address, sizeof word * GRANULE) || is_in_hole(address)))
         return false;
     __builtin_memcpy(&word, (const unsigned char *)shadow_of(address), sizeof word);
     word <<= ~last & (sizeof word - 1) * GRANULE;

@@ -61,6 +61,7 @@ static bool find_file(void)
         return false;
     }
     file.descriptor = descriptor_moved_up(made);
+    descriptor_keep(KEPT_UNUSED, file.descriptor, &seen);
     file.device = seen.st_dev;
     file.node = seen.st_ino;
     return true;

@@ -9,8 +9,8 @@
 #include <sys/mman.h>
 
 #include "base/memory.h"
-#include "base/platform.h"
 #include "base/system.h"
+#include "base/tables.h"
 #include "shadow/shadow.h"
 #include "stacks/own_stack.h"
 
@@ -38,7 +38,8 @@ struct fake_stack {
 /* Numbers of slots count from 1, and 0 is none. Free ones are a list: of its head the upper half counts its changes. */
 static _Atomic uint32_t slots_made;
 static _Atomic uint64_t free_slots;
-static AS_TABLE _Atomic uint32_t next_free[SLOTS + 1];
+static _Atomic uint32_t *const next_free = TABLE(_Atomic uint32_t, fake_free);
+TABLE_HAS_ROOM(fake_free, (SLOTS + 1) * sizeof *next_free);
 
 static _Atomic bool is_on;
 static _Thread_local struct fake_stack *volatile own;
@@ -151,10 +152,10 @@ static struct fake_stack *begin(void)
     return stack;
 }
 
-void fake_stack_start(bool by_default)
+void fake_stack_start(int answer)
 {
     atomic_store(&is_on, true);
-    __asan_option_detect_stack_use_after_return = by_default ? FRAMES_GIVEN : FRAMES_REFUSED;
+    __asan_option_detect_stack_use_after_return = answer;
 }
 
 void fake_stack_stop(void)

@@ -30,10 +30,14 @@ enum { WORD_MAGIC, WORD_DESCRIPTION, WORD_FUNCTION, WORD_REAL, WORDS };
 
 /* Whether code that was compiled with `runtime` asks for frames: it reads this first, and asks if it is not 0. */
 extern int __asan_option_detect_stack_use_after_return;
-enum { FRAMES_NEVER /* nothing is recorded */, FRAMES_GIVEN, FRAMES_REFUSED /* by a setting */ };
+enum {
+    FRAMES_NEVER, /* nothing is recorded, or AddressSanitizer's option refuses them, which is said anyway */
+    FRAMES_GIVEN,
+    FRAMES_REFUSED /* by a variable of ASANCOL: the first that asks says so */
+};
 
-/* From now on threads get frames; if `by_default` is false, those that are compiled with `always` alone. */
-void fake_stack_start(bool by_default);
+/* From now on threads get frames: functions compiled with `runtime` by this answer. */
+void fake_stack_start(int answer);
 /* This thread gets none, nor does one that has had none. */
 void fake_stack_stop(void);
 

@@ -5,10 +5,9 @@
 
 #include <stdatomic.h>
 #include <stdbool.h>
-#include <sys/mman.h>
 
-#include "base/platform.h"
 #include "base/system.h"
+#include "base/tables.h"
 #include "common/format.h"
 #include "stacks/thread_notes.h"
 
@@ -45,17 +44,14 @@ static struct {
 
 /* Relaxed: the place in `known` is released once the words of a stack are there. Who has its number from elsewhere may
    see zeros, or a number that is just given. */
-static AS_TABLE _Alignas(MOST_PAGE) _Atomic uint64_t words[STACK_WORDS];
+static _Atomic uint64_t *const words = TABLE(_Atomic uint64_t, stack_words);
+TABLE_HAS_ROOM(stack_words, STACK_WORDS * sizeof *words);
 /* The last stack of this thread that has all frames of its own, or 0. Relaxed: no other thread looks at it, and a
    signal handler finds one whose words are there. */
 static _Thread_local _Atomic uint32_t last_whole;
 /* The upper bits of a hash, and the number of the first word. */
-static AS_TABLE _Atomic uint64_t known[STACKS];
-
-void stacks_begin(void)
-{
-    system_madvise((void *)words, sizeof words, MADV_DONTDUMP); /* no debugger wants 32 MB of ours in a core */
-}
+static _Atomic uint64_t *const known = TABLE(_Atomic uint64_t, known_stacks);
+TABLE_HAS_ROOM(known_stacks, STACKS * sizeof *known);
 
 /* What differs in any bit of the hash comes into the upper ones, and from there into the lower ones. */
 static uint64_t mixed(uint64_t hash)

@@ -19,8 +19,6 @@ struct call_sites {
     call_site allocated, freed;
 };
 
-/* Before the first call site. (start/start.c, in the first thread) */
-void stacks_begin(void);
 /* The call site from which we came to `caller`, with the calls that led there (unwinding.h). (stream/, interface/,
    process/) */
 call_site call_site_of(uintptr_t caller);

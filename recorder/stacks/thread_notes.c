@@ -2,17 +2,18 @@
 #define _GNU_SOURCE
 #include "stacks/thread_notes.h"
 
-#include "base/platform.h"
 #include "base/system.h"
+#include "base/tables.h"
 #include "libc/library.h"
 
 _Thread_local struct own_notes own_notes = {.number = THREAD_UNKNOWN};
 
 /* By their numbers. Unused ones take no memory. */
-static AS_TABLE struct {
+static struct kept_note {
     _Atomic uint64_t created, name[NAME_WORDS];
     _Atomic uint32_t system_number;
-} notes[THREAD_UNKNOWN];
+} *const notes = TABLE(struct kept_note, thread_notes);
+TABLE_HAS_ROOM(thread_notes, THREAD_UNKNOWN * sizeof *notes);
 
 void thread_is_first(void)
 {

@@ -8,6 +8,7 @@
 
 #include "base/memory.h"
 #include "base/platform.h"
+#include "base/tables.h"
 #include "shadow/mapping.h"
 #include "stacks/cfi.h"
 #include "stacks/own_stack.h"
@@ -26,12 +27,13 @@ union rule_word {
     uint64_t word;
 };
 
-static AS_TABLE _Alignas(64) struct known_rule rules[PLACES];
+static struct known_rule *const rules = TABLE(struct known_rule, stack_rules);
+TABLE_HAS_ROOM(stack_rules, PLACES * sizeof *rules);
 
 /* The generation is in the upper bits of the key. */
 void unwinding_modules_changed(void)
 {
-    atomic_fetch_add(&rules_generation, (uint64_t)1 << GENERATION_SHIFT);
+    walks_end_generation();
 }
 
 /* Whether a call ends here: by the bytes of the instruction before. */
@@ -501,4 +503,63 @@ void unwind_from_registers(const struct registers *registers, struct stack *foun
     found->count = 0, found->hash = 0, found->second = 0, found->is_walker = false;
     found->keeping = (struct keeping){0};
     unwind(&at, false, atomic_load_explicit(&rules_generation, memory_order_relaxed), &reach, found);
+}
+
+/* From one frame to its caller's, and what lies between. */
+struct step {
+    struct cfi_rule rule;
+    uintptr_t from, to;
+};
+
+static bool step_up(struct registers *at, bool is_after_call, uint64_t now, struct reach *reach, struct step *step)
+{
+    step->rule = rule_of(at->instruction, is_after_call, now);
+    step->from = at->stack;
+    bool is_known = !is_after_call || (step->rule.flags & CFI_CALLED);
+    bool goes_on = is_known && go_on(at, step->rule, reach);
+    step->to = at->stack;
+    return goes_on;
+}
+
+/* Whether the caller's frame is on another stack: code that has switched to one may lead back to where it came from. */
+static bool is_on_another(const struct step *step)
+{
+    enum { MOST_OF_FRAME = 1 << 20 };
+    return step->rule.kind == CFI_SIGNAL || step->to - step->from > MOST_OF_FRAME
+           || is_on_own_stack(step->from) != is_on_own_stack(step->to);
+}
+
+static void end_piece(struct frames_between *found, uintptr_t top)
+{
+    found->pieces[found->count++].top = top;
+    found->end = top;
+}
+
+bool unwind_to(uintptr_t frame, uintptr_t target, struct frames_between *found)
+{
+    enum { MOST_STEPS = 1 << 14 };
+    struct keeping keeping = {.walks = NULL};
+    struct reach reach = {.keeping = &keeping};
+    struct step step;
+    uint64_t now = atomic_load_explicit(&rules_generation, memory_order_relaxed);
+    struct pair pair = {word_above(frame, 0), CODE_ADDRESS(word_above(frame, 1))};
+    struct registers at = after_return(frame, pair, 0, now);
+    bool is_after_call = true;
+    *found = (struct frames_between){.pieces = {{.low = frame}}};
+    for (unsigned i = 0; i < MOST_STEPS && step_up(&at, is_after_call, now, &reach, &step); i++) {
+        if (target >= step.from && target < step.to && step.rule.kind != CFI_SIGNAL) {
+            end_piece(found, target);
+            found->end = step.to;
+            return true;
+        }
+        is_after_call = step.rule.kind != CFI_SIGNAL;
+        if (!is_on_another(&step))
+            continue;
+        end_piece(found, step.from);
+        if (found->count == MOST_PIECES)
+            return false;
+        found->pieces[found->count].low = step.to;
+    }
+    end_piece(found, at.stack);
+    return false;
 }

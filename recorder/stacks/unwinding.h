@@ -1,10 +1,10 @@
 /* The calls that have led somewhere: from frame to frame, by call frame information (cfi.h), and by frame pointers
    where a function has none. On any stack: what cannot be read ends it.
 
-   Called: unwind_from_call, unwind_end and unwind_from_registers by stacks.c, in the thread whose stack it is, also
-   in a handler, with or without locks. No lock here: `struct stack` is the caller's, and a rule is written so that
-   another thread takes no half of it (unwinding.c). unwinding_modules_changed by process/plain.c and
-   interface/hooks.c, in any thread, after a library was opened. */
+   Called: unwind_from_call, unwind_end and unwind_from_registers by stacks.c, and unwind_to by process/threads.c, in
+   the thread whose stack it is, also in a handler, with or without locks. No lock here: `struct stack` is the caller's,
+   and a rule is written so that another thread takes no half of it (unwinding.c). unwinding_modules_changed by
+   process/plain.c and interface/hooks.c, in any thread, after a library was opened. */
 #ifndef ASANCOL_UNWINDING_H
 #define ASANCOL_UNWINDING_H
 
@@ -12,6 +12,7 @@
 #include <stdint.h>
 
 #include "stacks/depth.h"
+#include "stacks/own_stack.h"
 #include "stacks/walks.h"
 
 /* The addresses after the calls, the innermost first, and how many there are. The hash depends on all of them. */
@@ -45,6 +46,19 @@ struct registers {
 
 /* The same, from any instruction on, whose address comes first, with 1 added, as if it were a call. */
 void unwind_from_registers(const struct registers *registers, struct stack *found);
+
+/* What lies between a frame and one that goes on: a piece for each stack on the way, as far as it was gone; and where
+   the frame ends that goes on. */
+enum { MOST_PIECES = 4 };
+struct frames_between {
+    struct span pieces[MOST_PIECES];
+    unsigned count;
+    uintptr_t end;
+};
+
+/* From a frame of the recorder's up to this stack pointer, of one of those that have called it. False: the way ends
+   before, so it is on another stack, or is not known; or there is none to go to (0). */
+bool unwind_to(uintptr_t frame, uintptr_t target, struct frames_between *found);
 
 /* The notes on the code of modules may be outdated. */
 void unwinding_modules_changed(void);

@@ -4,7 +4,7 @@
 
 #include <string.h>
 
-#include "base/platform.h"
+#include "base/tables.h"
 #include "stacks/own_stack.h"
 
 _Thread_local struct own_walks own_walks;
@@ -12,7 +12,8 @@ _Atomic uint64_t rules_generation = UINT64_C(1) << GENERATION_SHIFT;
 
 /* More threads at a time know none. Unused entries take no memory. */
 enum { PLACES = 256, AFTER_WALKS = 64 };
-static AS_TABLE _Alignas(MOST_PAGE) struct walks places[PLACES];
+static struct walks *const places = TABLE(struct walks, walks);
+TABLE_HAS_ROOM(walks, PLACES * sizeof *places);
 /* The address of a thread's own_walks; or 0. */
 static _Atomic uintptr_t owners[PLACES];
 
@@ -28,9 +29,18 @@ void walks_empty(struct walks *walks)
         walks->telling[i] = nothing;
 }
 
+/* Up to where the stack can be read. */
+static void reach(struct walks *walks)
+{
+    uintptr_t end = own_stack.all != 0 && own_stack.readable < own_stack.top ? own_stack.readable : own_stack.top;
+    walks->low = own_stack.low;
+    walks->size = end > walks->low ? end - walks->low : 0;
+}
+
 void walks_forget(struct walks *walks, uint64_t generation)
 {
     walks_empty(walks);
+    reach(walks);
     walks->generation = generation;
     memset(walks->pointers, 0, sizeof walks->pointers);
 }
@@ -56,6 +66,12 @@ static struct walks *take(void)
     return NULL;
 }
 
+void walks_note_rights(uintptr_t start, size_t size, bool can_be_read)
+{
+    if (stack_note_rights(start, size, can_be_read))
+        walks_end_generation(); /* words of known walks may lie there */
+}
+
 /* No handler comes here in between, since `walker` is set. But one may fork, or leave by a jump, before the place that
    was taken is noted here: by its owner no child gives it to another thread, and the end of this thread gives it back.
    */
@@ -63,13 +79,16 @@ struct walks *walks_take(void)
 {
     struct walks *walks = atomic_load_explicit(&own_walks.walks, memory_order_relaxed);
     uint32_t count = atomic_load_explicit(&own_walks.count, memory_order_relaxed);
-    if (LIKELY(walks != NULL) || count == UINT32_MAX || own_stack.top == 0)
+    if (LIKELY(walks != NULL)) {
+        if (UNLIKELY(walks->low != own_stack.low))
+            reach(walks); /* the stack has grown */
         return walks;
+    }
+    if (count == UINT32_MAX || own_stack.top == 0)
+        return NULL;
     atomic_store_explicit(&own_walks.count, count + 1, memory_order_relaxed);
     if (count != AFTER_WALKS || (walks = take()) == NULL)
         return NULL;
-    walks->low = own_stack.may_grow ? own_stack.top - MAX_STACK_SIZE + 1 : own_stack.low;
-    walks->size = own_stack.top - walks->low;
     walks_forget(walks, atomic_load_explicit(&rules_generation, memory_order_relaxed));
     atomic_signal_fence(memory_order_seq_cst);
     atomic_store_explicit(&own_walks.walks, walks, memory_order_relaxed);

@@ -11,8 +11,9 @@
 
    Called: walks_recall by stacks.c, and the rest by unwinding.c as it walks, in the thread that walks, also in a
    handler, with or without the allocator's lock; walks_give by process/threads.c, as the thread ends;
-   walks_are_alone by process/process.c, in a forked child. No lock here: a place is its thread's alone, and who uses
-   it sets `own_walks.walker`. A handler that finds that set leaves the place alone. */
+   walks_are_alone by process/process.c, in a forked child; walks_end_generation by unwinding.c; walks_note_rights by
+   the checks of calls (interface/hooks.def), in the thread whose stack it may be. No lock here: a place is its thread's
+   alone, and who uses it sets `own_walks.walker`. A handler that finds that set leaves the place alone. */
 #ifndef ASANCOL_WALKS_H
 #define ASANCOL_WALKS_H
 
@@ -77,6 +78,15 @@ extern _Thread_local struct own_walks {
 /* The generation of the notes on modules' code; it counts in the upper bits. */
 enum { GENERATION_SHIFT = ADDRESS_BITS + 1 };
 extern _Atomic uint64_t rules_generation;
+
+/* All walks and rules that are known are looked up again. */
+static inline void walks_end_generation(void)
+{
+    atomic_fetch_add(&rules_generation, (uint64_t)1 << GENERATION_SHIFT);
+}
+
+/* Memory may be read from now on, or not, which is noted before. (calls/spaces.c) */
+void walks_note_rights(uintptr_t start, size_t size, bool can_be_read);
 
 /* The place of this thread, once it has walked often; or null. `walker` is set. */
 struct walks *walks_take(void);

@@ -41,6 +41,7 @@
 #include "out/exported.def"
 EXPORT(dlsym)
 EXPORT(dlvsym)
+EXPORT(mlockall)
 
 TOP_ASM(".pushsection .text\n"
         ".p2align 4\n"

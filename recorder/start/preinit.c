@@ -1,6 +1,7 @@
-/* What runs first of a program. It is linked before the program's own objects, so that its entry is the first of
-   .preinit_array, and its resolver the first of the program: the dynamic linker calls that once it has relocated all
-   libraries. A program that dies in a resolver of its own has left word by then. */
+/* What runs first of a program. It is linked before the program's own objects, so that its resolver is the first of the
+   program: the dynamic linker calls that once it has relocated all libraries. Its entry is the first of .preinit_array,
+   unless Clang links one of its own runtimes before, whose calls then come to stubs. A program that dies in a resolver
+   or an entry of its own has left word by then. */
 #include "start/preinit.h"
 
 #include "start/first_call.h"

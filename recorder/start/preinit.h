@@ -6,7 +6,8 @@
 
 #include "base/platform.h"
 
-/* If the program has other resolvers, tells the hub to expect it, as before an exec. */
+/* Maps the shadow and the hook page. If the program has other resolvers, or entries of .preinit_array before ours,
+   tells the hub to expect it, as before an exec. */
 void preinit_resolver(void) OWN_NAME(preinit_resolver);
 
 #endif

@@ -1,5 +1,5 @@
-/* Counts the relocations of the program that ask a resolver, before any of them is called: its tables are read as they
-   lie in the file.
+/* Maps what the program's calls and code need, and counts the relocations of the program that ask a resolver, before
+   any of them is called: its tables are read as they lie in the file.
 
    Called: as preinit.h says. */
 #define _GNU_SOURCE
@@ -14,10 +14,14 @@
 #include "environment/startup.h"
 #include "environment/hub_names.h"
 #include "environment/hub_word.h"
+#include "shadow/mapping.h"
 
 extern void *__libc_stack_end;
 extern const Elf64_Ehdr __ehdr_start __attribute__((visibility("hidden")));
 extern const Elf64_Dyn _DYNAMIC[] __attribute__((visibility("hidden")));
+extern const void *const __preinit_array_start[] __attribute__((visibility("hidden")));
+/* The program's entry there (preinit.c), if it is linked. */
+extern const void *const asancol_first __attribute__((visibility("hidden"), weak));
 
 /* A part of the table of relocations. The dynamic linker may have made addresses of what stands there. */
 struct part {
@@ -76,10 +80,17 @@ static const char *hub_at_start(char *const **argv)
     return hub != NULL && *hub != 0 && !startup_is_set_user(variables) ? hub : NULL;
 }
 
+/* Whether other functions of .preinit_array come first, such as UndefinedBehaviorSanitizer's. */
+static bool has_entries_before(void)
+{
+    return (const void *)&asancol_first != (const void *)__preinit_array_start;
+}
+
 void preinit_resolver(void)
 {
     char *const *argv;
-    const char *hub = has_resolvers() ? hub_at_start(&argv) : NULL;
+    shadow_map_early();
+    const char *hub = has_resolvers() || has_entries_before() ? hub_at_start(&argv) : NULL;
     if (hub != NULL)
         hub_word_expect(hub, *argv != NULL ? *argv : "", NEVER_BEGAN);
 }

@@ -16,6 +16,7 @@
 #include "interface/reports.h"
 #include "leaks/leaks.h"
 #include "process/preload_choice.h"
+#include "environment/other_threads.h"
 #include "environment/startup.h"
 #include "process/halt.h"
 #include "process/own_run.h"
@@ -24,11 +25,12 @@
 #include "process/signals.h"
 #include "process/threads.h"
 #include "process/unchecked.h"
+#include "process/world.h"
 #include "shadow/mapping.h"
 #include "stacks/own_stack.h"
 #include "stacks/thread_notes.h"
-#include "stacks/stacks.h"
 #include "stream/ending.h"
+#include "stream/side.h"
 #include "stream/state.h"
 
 /* The end. The first registered handler is called last: before any constructor of a library runs, and before the C
@@ -37,24 +39,48 @@
 
 static struct {
     bool is_registered, handlers_are_over, destructors_are_over;
+    bool has_status;
     int status;
 } ends;
 
-/* The C library flushes its streams after all handlers, and that may call the program (fopencookie). Leaks are looked
-   for before that, as LeakSanitizer does. */
-static void end_at_exit(bool is_last)
+/* What comes after a call. At the end that is known for certain there is nothing but what the C library does with
+   streams: where other destructors follow, other threads are not stopped for good. */
+enum coming { OTHER_HANDLERS, OTHER_DESTRUCTORS, NOTHING };
+
+/* Whether other threads are to be stopped for good. A stopped thread may have a lock that the C library needs for its
+   streams, which it flushes after all handlers: that is done now, while all run, and may call the program
+   (fopencookie). After that only the system is called. */
+static bool ends_with_others(enum coming coming)
 {
-    bool is_own = recorder_is_own_process();
+    if (coming != NOTHING || !ends.has_status || heap_is_entered() || (!leaks_are_wanted() && !root_is_to_ask()))
+        return false;
+    _Atomic uint64_t *calls = side_begin_calls(false);
+    bool has_others = has_other_threads();
+    side_end_calls(calls);
+    if (has_others)
+        library.fcloseall();
+    return has_others;
+}
+
+/* One thread looks for leaks before streams are flushed, as LeakSanitizer does. */
+static void end_at_exit(enum coming coming)
+{
+    if (recorder_is_absent())
+        return;
+    bool is_own = recorder_is_own_process(), is_last = coming != OTHER_HANDLERS;
     if (is_own)
         halt_is_waited_for();
     if (is_own)
         heap_ends_here();
+    bool has_others = is_own && ends_with_others(coming);
     if (is_last)
-        leaks_look_at_end();
+        leaks_look_at_end(has_others);
     if (is_last && is_own && stream_has_one_end())
         library._IO_flush_all();
     recorder_exit(is_last);
-    int of_run = is_last && is_own ? root_end_at_exit((ends.status & 0xff) << 8) : STATUS_STAYS;
+    int of_run = is_last && is_own ? root_end_at_exit((ends.status & 0xff) << 8, has_others) : STATUS_STAYS;
+    if (has_others && world_is_stopped())
+        system_exit(of_run != STATUS_STAYS ? of_run : ends.status);
     if (of_run != STATUS_STAYS)
         library.exit(of_run); /* which goes on with the handlers that remain */
 }
@@ -62,6 +88,7 @@ static void end_at_exit(bool is_last)
 static void note_status(int status, void *unused)
 {
     (void)unused;
+    ends.has_status = true;
     ends.status = status;
 }
 
@@ -69,26 +96,34 @@ static void after_handlers(void *unused)
 {
     (void)unused;
     ends.handlers_are_over = true;
-    end_at_exit(ends.destructors_are_over);
+    end_at_exit(ends.destructors_are_over ? NOTHING : OTHER_HANDLERS);
 }
 
 static void after_destructors(void)
 {
+#ifdef IS_STATIC
+    enum coming coming = NOTHING;
+#else
+    enum coming coming = OTHER_DESTRUCTORS;
+#endif
     ends.destructors_are_over = true;
     if (!preload_choice_is_own())
         return;
     if (!ends.is_registered || ends.handlers_are_over)
-        end_at_exit(true);
+        end_at_exit(coming);
 }
 
 static void after_quick_handlers(void *unused)
 {
     (void)unused;
+    if (recorder_is_absent())
+        return;
     halt_is_waited_for();
     recorder_exit(true);
-    int of_run = root_end_at_exit(0); /* the C library tells no status here */
-    if (of_run != STATUS_STAYS)
-        system_exit(of_run);
+    int status = root_quick_status(); /* the C library tells none here */
+    int of_run = root_end_at_exit(status > 0 ? status << 8 : 0, status >= 0);
+    if (of_run != STATUS_STAYS || world_is_stopped())
+        system_exit(of_run != STATUS_STAYS ? of_run : status);
 }
 
 /* The object for which they are registered is none that is ever closed. */
@@ -124,6 +159,7 @@ void asancol_start(void)
         return;
     has_begun = true;
     library_begin();
+    other_threads_know(library.__libc_single_threaded);
     find_argv();
     own_run_begin();
     shadow_map();
@@ -132,7 +168,6 @@ void asancol_start(void)
     stack_start();
     threads_find_jumps();
     thread_is_first();
-    stacks_begin();
     unchecked_start();
     undisturbed_begin(&before);
     recorder_start();

@@ -6,20 +6,21 @@
 #include <string.h>
 #include <sys/mman.h>
 
-#include "base/platform.h"
 #include "base/system.h"
+#include "base/tables.h"
 #include "stream/thread_list.h"
 
 /* Those that are known: the upper bits of a hash, and the number in the lower ones. */
 #define KNOWN ((uint64_t)1 << 17)
 _Static_assert(FAULT_NUMBER == KNOWN - 1, "a number is a place in the table");
 _Static_assert(SIDE_FAULTS < KNOWN, "there is always a free place, and a number has room");
-static AS_TABLE _Alignas(MOST_PAGE) _Atomic uint64_t known[KNOWN];
+static _Atomic uint64_t *const known = TABLE(_Atomic uint64_t, known_faults);
+TABLE_HAS_ROOM(known_faults, KNOWN * sizeof *known);
 
 void fault_list_forget(void)
 {
     /* Memory that the process has locked can't be given back to the system. */
-    if (system_madvise((void *)known, sizeof known, MADV_DONTNEED) != 0)
+    if (system_madvise((void *)known, KNOWN * sizeof *known, MADV_DONTNEED) != 0)
         for (uint64_t i = 0; i < KNOWN; i++) /* others may look there */
             atomic_store_explicit(&known[i], 0, memory_order_relaxed);
 }

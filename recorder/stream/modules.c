@@ -14,13 +14,14 @@
 #include "base/memory.h"
 #include "base/platform.h"
 #include "base/system.h"
+#include "base/tables.h"
 #include "environment/link_note.h"
 #include "shadow/unused.h"
 #include "stream/state.h"
 
 enum { MAPS_ROOM = SIDE_UNCHECKED - SIDE_MAPS };
 
-static AS_TABLE struct {
+static struct noted {
     uint64_t generation;      /* of modules, as the loader counted them; 0: nobody has asked it */
     uint64_t unchecked_state; /* the other source of the list of unchecked code, beside the map */
     size_t open, length;      /* of the map up to the closed modules, and of all of it; 0: there is no note */
@@ -28,11 +29,12 @@ static AS_TABLE struct {
     struct side_build builds[SIDE_BUILD_COUNT];
     char unchecked[SIDE_UNCHECKED_ROOM];
     char map[MAPS_ROOM];
-} noted;
+} *const noted = TABLE(struct noted, modules_noted);
+TABLE_HAS_ROOM(modules_noted, sizeof *noted);
 
 const char *modules_map(void)
 {
-    return noted.map;
+    return noted->map;
 }
 
 /* The heads of files. */
@@ -190,7 +192,7 @@ static bool take_code(struct rest *rest)
 /* Whether a map has the same lines of code as the noted one. */
 static bool has_noted_code(const char *map, size_t length)
 {
-    struct rest now = {.at = map, .end = map + length}, before = {.at = noted.map, .end = noted.map + noted.open};
+    struct rest now = {.at = map, .end = map + length}, before = {.at = noted->map, .end = noted->map + noted->open};
     for (;;) {
         bool has_line = take_code(&now), had_line = take_code(&before);
         if (!has_line || !had_line)
@@ -224,7 +226,7 @@ static size_t keep_closed(char *map, size_t length, size_t room)
     size_t now = length;
     if (now > MAX_COMPARED)
         return length;
-    for (const char *at = noted.map; maps_take_line(at, &line); at = line.next) {
+    for (const char *at = noted->map; maps_take_line(at, &line); at = line.next) {
         size_t size = (size_t)(line.next - line.text);
         if (!line.has_file || !(line.is_code || maps_is_module(&line)) || size >= room - length || is_taken(map, &line))
             continue;
@@ -253,38 +255,38 @@ static bool find_before(struct side_build *build, const struct side_build *befor
 static void note_builds(void)
 {
     static AS_TABLE struct side_build before[SIDE_BUILD_COUNT];
-    const char *at = noted.map;
+    const char *at = noted->map;
     struct map_line line;
-    size_t count_before = noted.builds_count, count = 0;
-    memcpy(before, noted.builds, count_before * sizeof *before);
+    size_t count_before = noted->builds_count, count = 0;
+    memcpy(before, noted->builds, count_before * sizeof *before);
     for (; count < SIDE_BUILD_COUNT && maps_take_line(at, &line); at = line.next) {
         struct module module;
         if (!maps_is_module(&line))
             continue;
         module_at(&module, line.start);
         if (module.build.length != 0 || find_before(&module.build, before, count_before))
-            noted.builds[count++] = module.build;
+            noted->builds[count++] = module.build;
     }
-    noted.builds_count = count;
+    noted->builds_count = count;
 }
 
 /* The note. Answers whether it is another one. */
 static bool note(void)
 {
-    static AS_TABLE char now[MAPS_ROOM];
-    size_t length = read_map(now, sizeof now - 1);
+    static char *const now = TABLE(char, modules_now);
+    size_t length = read_map(now, MAPS_ROOM - 1);
     uint64_t state = above.unchecked_state();
     if (length == 0) /* as after a change of root: the old note stays */
         return false;
-    if (noted.length != 0 && state == noted.unchecked_state && has_noted_code(now, length))
+    if (noted->length != 0 && state == noted->unchecked_state && has_noted_code(now, length))
         return false;
-    noted.unchecked_state = state;
+    noted->unchecked_state = state;
     find_modules(now);
     /* Without the closed ones, whose notes are gone: they were listed when they came. */
-    above.list_unchecked(noted.unchecked, now);
-    noted.open = length;
-    noted.length = keep_closed(now, length, sizeof now);
-    memcpy(noted.map, now, noted.length + 1);
+    above.list_unchecked(noted->unchecked, now);
+    noted->open = length;
+    noted->length = keep_closed(now, length, MAPS_ROOM);
+    memcpy(noted->map, now, noted->length + 1);
     note_builds();
     return true;
 }
@@ -293,20 +295,20 @@ static bool note(void)
 static void copy(struct side *side, bool is_new)
 {
     char *bytes = (char *)side, *unchecked = bytes + SIDE_UNCHECKED;
-    size_t length = strlen(noted.unchecked), before = is_new ? 0 : strlen(unchecked);
+    size_t length = strlen(noted->unchecked), before = is_new ? 0 : strlen(unchecked);
     struct side_build *builds = (struct side_build *)(bytes + SIDE_BUILDS);
-    memcpy(bytes + SIDE_MAPS, noted.map, noted.length + 1);
-    memcpy(builds, noted.builds, noted.builds_count * sizeof *builds);
-    if (noted.builds_count < SIDE_BUILD_COUNT)
-        builds[noted.builds_count].start = 0;
-    memcpy(unchecked, noted.unchecked, length);
+    memcpy(bytes + SIDE_MAPS, noted->map, noted->length + 1);
+    memcpy(builds, noted->builds, noted->builds_count * sizeof *builds);
+    if (noted->builds_count < SIDE_BUILD_COUNT)
+        builds[noted->builds_count].start = 0;
+    memcpy(unchecked, noted->unchecked, length);
     if (before > length)
         memset(unchecked + length, 0, before - length);
 }
 
 void modules_show(struct side *side)
 {
-    if (noted.length != 0 || note())
+    if (noted->length != 0 || note())
         copy(side, true);
 }
 
@@ -318,14 +320,14 @@ void modules_look(struct side *side)
 
 void modules_look_at_generation(struct side *side, uint64_t generation)
 {
-    if (generation == noted.generation && above.unchecked_state() == noted.unchecked_state)
+    if (generation == noted->generation && above.unchecked_state() == noted->unchecked_state)
         return;
     modules_look(side);
-    noted.generation = generation;
+    noted->generation = generation;
 }
 
 void modules_are_of_generation(uint64_t generation)
 {
-    if (noted.length != 0)
-        noted.generation = generation;
+    if (noted->length != 0)
+        noted->generation = generation;
 }

@@ -68,10 +68,13 @@ static const char *reason(long result)
     return error_text(error);
 }
 
+/* Whether the descriptor is still that of the output. A filter of the process may refuse the question: that says
+   nothing. */
 static bool is_still(const struct output *output, int descriptor)
 {
     struct stat seen;
-    return system_fstat(descriptor, &seen) == 0 && seen.st_dev == output->device && seen.st_ino == output->node;
+    int result = system_fstat(descriptor, &seen);
+    return result == 0 ? seen.st_dev == output->device && seen.st_ino == output->node : result != -EBADF;
 }
 
 /* Maps an output, which is no part of a core. */
@@ -99,10 +102,12 @@ static long empty_memory(struct window window)
 static const char *take_pieces(struct output *output, int descriptor, struct window window)
 {
     struct stat seen;
-    output->descriptor = descriptor_moved_up(descriptor);
-    long result = system_fstat(output->descriptor, &seen);
+    output->descriptor = descriptor;
+    long result = system_fstat(descriptor, &seen);
     if (result < 0)
         return reason(result);
+    output->descriptor = descriptor_moved_up(descriptor);
+    descriptor_keep(KEPT_STREAM, output->descriptor, &seen);
     output->device = seen.st_dev;
     output->node = seen.st_ino;
     if (!window.is_new && (result = empty_memory(window)) < 0)
@@ -385,6 +390,19 @@ bool output_is_closed(const struct output *output)
     return !output->is_mapped && !is_still(output, output->descriptor);
 }
 
+void output_make_way(struct output *output, int number)
+{
+    if (output->descriptor != number || output_is_closed(output))
+        return;
+    int moved = descriptor_past(number);
+    struct stat identity = {.st_dev = output->device, .st_ino = output->node};
+    if (moved < 0)
+        return;
+    descriptor_keep(KEPT_STREAM, moved, &identity);
+    output->descriptor = moved;
+    system_close(number);
+}
+
 const char *output_send(struct output *output, uint64_t length, bool all, int patience_ms)
 {
     enum { PIECE = 1 << 14 }; /* the system gives room back for buffers that were read entirely */
@@ -399,8 +417,7 @@ const char *output_send(struct output *output, uint64_t length, bool all, int pa
         const unsigned char *next = output->bytes + output->sent;
         size_t rest = length - output->sent;
         ssize_t count = output->is_socket
-                            ? system_send(output->descriptor, next, rest < PIECE ? rest : PIECE,
-                                          MSG_NOSIGNAL | MSG_DONTWAIT)
+                            ? system_send_anyhow(output->descriptor, next, rest < PIECE ? rest : PIECE)
                             : system_write(output->descriptor, next, rest);
         if (count > 0) {
             output->sent += (uint64_t)count;
@@ -438,8 +455,11 @@ void output_leave(struct output *output)
         empty_memory(window);
     else if (output->bytes != NULL)
         put_memory(window);
-    if (output->descriptor >= 0 && is_still(output, output->descriptor))
-        system_close(output->descriptor);
+    if (output->descriptor >= 0) {
+        descriptor_drop(KEPT_STREAM);
+        if (is_still(output, output->descriptor))
+            system_close(output->descriptor);
+    }
     output->bytes = NULL;
     output->descriptor = -1;
 }

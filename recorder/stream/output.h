@@ -3,10 +3,10 @@
    Called: output_open_file and output_close by opening.c and switching.c; output_connect, output_open_memory and
    output_send_first by opening.c; output_send by that, ending.c and sending.c; output_extend by growing.c and
    suspending.c; output_back by side.c; output_trim and output_leave by keeping.c; output_discard by switching.c;
-   output_is_closed by that and sending.c; output_number by opening.c and segments.c, and output_name_segment by
-   segments.c: in the thread that has the stream's lock, also in a handler, or that starts the stream. Without it
-   output_is_closed by sending.c as a process ends, and output_lose by keeping.c in the handler of SIGBUS, which
-   waits for none. */
+   output_is_closed by that and sending.c; output_make_way by sending.c; output_number by opening.c and segments.c, and
+   output_name_segment by segments.c: in the thread that has the stream's lock, also in a handler, or that starts the
+   stream. Without it output_is_closed by sending.c as a process ends, and output_lose by keeping.c in the handler of
+   SIGBUS, which waits for none. */
 #ifndef ASANCOL_OUTPUT_H
 #define ASANCOL_OUTPUT_H
 
@@ -69,6 +69,8 @@ void output_trim(struct output *output, uint64_t length);
 /* Whether the process has closed the descriptor, or has another file there. Sending then returns this text. */
 bool output_is_closed(const struct output *output);
 extern const char output_closed[];
+/* Moves the descriptor, if it has this number, which the process wants to have. */
+void output_make_way(struct output *output, int number);
 /* Sends the unsent ones of the first bytes: at once what a socket takes, or all of it, with patience. */
 const char *output_send(struct output *output, uint64_t length, bool all, int patience_ms);
 /* Whether the address lies in a mapped file. Then the file is gone, and plain memory takes its place. */

@@ -7,6 +7,7 @@
 #include <sys/stat.h>
 #include <time.h>
 
+#include "base/descriptors.h"
 #include "base/self.h"
 #include "base/system.h"
 #include "libc/library.h"
@@ -77,6 +78,14 @@ void sending_try(void)
     system_send(-1, NULL, 0, MSG_NOSIGNAL | MSG_DONTWAIT);
     system_madvise(NULL, 0, MADV_DONTNEED);
     side_end_calls(calls);
+}
+
+void stream_make_way(int descriptor)
+{
+    if (descriptor_shown(descriptor) == descriptor || !stream_lock_at_once())
+        return;
+    output_make_way(&locked.trace, descriptor);
+    stream_unlock();
 }
 
 void stream_hang_up(void)

@@ -121,13 +121,10 @@ static void note_process(struct side *side, uint64_t segment)
     static uint64_t started, of_parent, of_parent_started;
     struct timespec now = {0, 0};
     if (segment == 0) {
-        uint32_t now_is = (uint32_t)self_process();
-        if (process != now_is) { /* a forked child has these from its parent, or zeros */
-            of_parent = process;
-            of_parent_started = started;
-        }
+        of_parent = process; /* a forked child has these from its parent, with the same number in another namespace */
+        of_parent_started = started;
         library.clock_gettime(CLOCK_REALTIME, &now);
-        process = now_is;
+        process = (uint32_t)self_process();
         parent = (uint32_t)system_getppid();
         started = (uint64_t)now.tv_sec * 1000000000 + (uint64_t)now.tv_nsec;
     }
@@ -201,8 +198,7 @@ void side_begin(unsigned char *bytes, uint64_t segment, const struct settings *s
     atomic_store_explicit(needed_in(side), 1, memory_order_relaxed);
     memcpy(side->header, SIDE_HEADER, sizeof side->header);
     atomic_store(&current, side);
-    side_note_skipped(atomic_load(&skipped) | (settings->mismatches && settings->other_sizes ? 0 : SKIPPED_FAMILIES)
-                      | (settings->with_leaks ? 0 : SKIPPED_LEAKS));
+    side_note_skipped(atomic_load(&skipped) | settings->skipped);
     put_used_again();
     side_note_first_name();
     modules_show(side);

@@ -49,7 +49,7 @@ void side_note_skipped(uint64_t what) OWN_NAME(side_note_skipped);
 void side_note_finding_lost(void);
 /* A sandbox may end the process for the calls of the system that come now: what the recorder tries in the middle of
    the program, or does for a program that is about to be started. They are over with what this answers. (sending.c,
-   leaks/leaks.c, process/) */
+   leaks/leaks.c, start/start.c, process/) */
 _Atomic uint64_t *side_begin_calls(bool for_start);
 void side_end_calls(_Atomic uint64_t *calls);
 /* Up to where it has something. (keeping.c, locked) */

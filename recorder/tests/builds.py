@@ -169,6 +169,81 @@ def check_no_recovery(suite, folder, compiler):
         expect((ran.returncode, b"signed integer overflow" in ran.stderr), (status, True), recovery)
 
 
+# As configure looks for a function in a library.
+LOOKS_FOR_INIT = "char __asan_init();\nint main(void) { return __asan_init(); }\n"
+
+
+def check_runtimes(suite, folder, compiler):
+    """AddressSanitizer's runtime, in each form in which a link names it, is left out, whether it is there or not."""
+    made = Builder(suite, folder, compiler)
+    made.objects()
+    both = ("main.o", "helper.o")
+    write(folder, a_rsp="-lasan helper.o -l asan\n", b_rsp="@a.rsp\n")
+    for name in ("libasan.so.8", "libclang_rt.asan-x86_64.a"):
+        with open(f"{folder}/{name}", "w", encoding="utf-8"):
+            pass
+    for words in (["-lasan"], ["-l", "asan"], ["-l:libasan.so"], ["-l:libasan.a"], ["-Wl,-lasan"], ["-llsan", "-lasan"],
+                  ["-Wl,--push-state,--no-as-needed,-lasan,--pop-state"], ["-Xlinker", "-lasan"], ["./libasan.so.8"],
+                  [f"{folder}/libclang_rt.asan-x86_64.a"], ["-L.", "-lclang_rt.asan-x86_64"],
+                  ["-fsanitize=address", "-lasan"],
+                  ["-Wl,--whole-archive,/none/libasan.a,--no-whole-archive"], ["-lasan", "-lm"]):
+        made.link(*both, *words)
+    made.link("main.o", "@a.rsp")
+    made.link("main.o", "@b.rsp")
+    write(folder, look_c=LOOKS_FOR_INIT)
+    made.cc("-w", "look.c", "-lasan", "-o", "look")
+    expect(run(["./look"], folder).returncode, 0, "what configure does")
+    # A file may be made that has such a name.
+    made.cc("-fPIC", "-shared", "helper.c", "-DVALUE=1", "-o", "libasan.so", "-Wl,-soname,libasan.so")
+    made.cc("-c", "-MD", "-MF", "libasan.a", "-MT", "libasan.so", "helper.c", "-DVALUE=1")
+    expect(made.text_of("libasan.a").startswith("libasan.so: "), True, "-MF and -MT")
+
+
+# A resolver with a variable, which calls wrapped functions.
+RESOLVES = """
+#include <pthread.h>
+#include <stdlib.h>
+#include <string.h>
+static pthread_mutex_t lock = PTHREAD_MUTEX_INITIALIZER;
+static int zero(void) { return 0; }
+static int one(void) { return 1; }
+static char *volatile word = "abcdefg";
+static int (*resolve(void))(void)
+{
+    char text[16], *volatile at = text;
+    pthread_mutex_lock(&lock);
+    strcpy(at, word);
+    pthread_mutex_unlock(&lock);
+    return strlen(at) == 7 && memcmp(at, word, 8) == 0 ? zero : one;
+}
+int call(void) __attribute__((ifunc("resolve")));
+int main(int count, char **argv) { (void)argv; free(malloc(count)); return call(); }
+"""
+
+
+def check_before_start(suite, folder, compiler):
+    """What runs before the recorder's start calls wrapped functions: a resolver; and the runtime of Clang for undefined
+    behaviour, whose entry of .preinit_array comes first."""
+    write(folder, resolves_c=RESOLVES, sound_c="int main(void) { return 0; }\n")
+    made = Builder(suite, folder, compiler)
+
+    def runs(program, **settings):
+        ran = run([program], folder, ASANCOL_TRACE="t", **settings)
+        expect((ran.returncode, ran.stderr), (0, b""), f"{program} with {settings}")
+        status, found, _ = reports(suite.asancol, f"{folder}/t")
+        expect((status, found), (0, []), f"{program} with {settings}")
+        os.unlink(f"{folder}/t")
+    for flags in ([], ["-O2"], ["-no-pie"], ["-Wl,-z,now"]):
+        made.cc(*flags, "resolves.c", "-o", "resolves")
+        runs("./resolves")
+    names = [compiler.name] if compiler.name != "clang" else ["clang", "clang-16", "clang-19", "clang-22"]
+    for name in (it for it in names if shutil.which(it)):
+        if run([name, "-fsanitize=undefined", "sound.c", "-o", "undefined"], folder).returncode == 0:
+            made.cc("-fsanitize=address,undefined", "sound.c", "-o", "sound", command=name)
+            for options in "log_path=a/b/log", "log_path=log:log_exe_name=1:print_stacktrace=1":
+                runs("./sound", UBSAN_OPTIONS=options)
+
+
 LOST = """
 volatile int sink;
 __attribute__((noinline)) int bug(int i) { int *p = new int[4]; return p[i]; }
@@ -541,6 +616,8 @@ def tests(suite, compiler):
         suite.test(f"{compiler} builds: C++ inside", check_cxx_inside, compiler)
     suite.test(f"{compiler} builds: languages", check_languages, compiler)
     suite.test(f"{compiler} builds: no recovery", check_no_recovery, compiler)
+    suite.test(f"{compiler} builds: before the start", check_before_start, compiler)
+    suite.test(f"{compiler} builds: runtimes", check_runtimes, compiler)
     suite.test(f"{compiler} builds: new", check_new, compiler)
     suite.test(f"{compiler} builds: lacking checks", check_lacking_checks, compiler)
     suite.test(f"{compiler} builds: passed on", check_passed_on, compiler)

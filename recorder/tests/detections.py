@@ -1,6 +1,7 @@
 """What settings choose to look for: globals with two definitions, the order of initialisation, and pairs of pointers.
 Each is found where AddressSanitizer finds it, and not where it does not."""
 
+import itertools
 import os
 import re
 from typing import Dict, List, Sequence, Tuple
@@ -187,6 +188,37 @@ def check_order_with_threads(suite: Suite, folder: str, compiler: Compiler) -> N
     expect(reports(suite.asancol, f"{folder}/t.trace")[1], [], "reports")
 
 
+JOINS_THREAD = """
+#include <pthread.h>
+#include <cstdlib>
+extern int other;
+static void *look(void *) { return (void *)(long)other; }
+struct starter {
+    void *found;
+    starter() { pthread_t made; pthread_create(&made, nullptr, look, nullptr); pthread_join(made, &found); }
+} one;
+int mine = std::atoi("5") + (long)one.found + other;
+int main() { return mine; }
+"""
+
+
+def check_order_within_file(suite: Suite, folder: str, compiler: Compiler) -> None:
+    """A thread that an initialiser creates looks at another file's globals, as may the rest of this file: no mistake
+    once these have their values, and in the strict order never."""
+    write(folder, main_cpp=JOINS_THREAD, other_cpp="#include <cstdlib>\nint other = std::atoi(\"3\");")
+    for names, strict in itertools.product((("other.cpp", "main.cpp"), ("main.cpp", "other.cpp")), (False, True)):
+        compiler.cpp(folder, names, f"{folder}/recorded", "-O0", "-pthread")
+        compiler.cpp(folder, names, f"{folder}/sanitized", "-O0", "-pthread", "-fsanitize=address", native=True)
+        order = "check_initialization_order=1" + ":strict_init_order=1" * strict
+        said = class_said(folder, "./sanitized", order)
+        status = 11 if names[0] == "other.cpp" else 5
+        expect(run(["./recorded"], folder, **ON, ASAN_OPTIONS=order).returncode, status, "the status")
+        count = len(reports(suite.asancol, f"{folder}/t.trace")[1])
+        run(["rm", "t.trace", "t.trace.where"], folder)
+        expect((count > 0, said), (bool(said), "initialization-order-fiasco" * (status == 5 and not strict)),
+               f"{names}, {order}")
+
+
 def check_long_path(_: Suite, folder: str, compiler: Compiler) -> None:
     """If a global's file has a path without room, its name alone is said, whatever is cut."""
     name = "a-file-with-a-longer-name.c"
@@ -267,3 +299,4 @@ def tests(suite: Suite, compiler: Compiler) -> None:
         suite.test(f"{compiler} order of initialisation: exit", check_order_at_exit, compiler)
         suite.test(f"{compiler} order of initialisation: dlopen", check_order_at_dlopen, compiler)
         suite.test(f"{compiler} order of initialisation: threads", check_order_with_threads, compiler)
+        suite.test(f"{compiler} order of initialisation: in a file", check_order_within_file, compiler)

@@ -30,7 +30,7 @@ SOURCES.append(f"{RECORDER}/heap/snapshot.c")
 WORLD, EXPLORER = f"{TESTS}/explore/world.c", f"{TESTS}/explore/explore.c"
 FLAGS = ["-std=gnu11", "-g", "-O1", "-D_GNU_SOURCE=", "-fno-strict-aliasing", "-iquote", RECORDER, "-iquote",
          os.path.dirname(RECORDER)]
-POINTS = ["-include", f"{TESTS}/explore/explore.h"]
+POINTS = ["-include", f"{TESTS}/explore/tables.h", "-include", f"{TESTS}/explore/explore.h"]
 WARNINGS = ["-Wall", "-Wextra", "-Wconversion"]
 
 # Orders that are drawn: those that a search would come to last.

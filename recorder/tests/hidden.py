@@ -4,9 +4,10 @@ what of them can be."""
 import os
 import re
 import shutil
-from typing import Dict, Sequence, Set, Tuple
+from typing import Dict, List, Sequence, Set, Tuple
 
-from support import CC, TESTS, Compiler, Suite, Trace, expect, has_plugin, leave_out, run, side_of, write
+from support import CC, TESTS, Compiler, Suite, Trace, expect, has_plugin, has_plugin_for, leave_out, noted, run, \
+    side_of, versions_of, write
 
 PLUGIN = "libasancol_gcc.so"
 ROW = re.compile(r"^(BUG|GOOD)\((\w+)", re.M)
@@ -110,6 +111,15 @@ def check_without_plugin(suite: Suite, folder: str) -> None:
     rows = rows_of("hidden.def")
     found = lines_found(folder, {line for _, line in rows.values()})[1]
     expect([it for it in rows if re.match("memcmp|bcmp", it) and rows[it][1] not in found], [], "what is missed")
+    major = version.decode().split(".", maxsplit=1)[0]
+    lacking = f"intrinsics and complex numbers (no plugin for GCC {major})"
+    ways: Tuple[List[str], ...] = ([], ["-flto"], ["-s"])
+    for words in ways:
+        for wrapper, wanted in ((wrappers["none"], [lacking]), (CC, [])):
+            expect(run([wrapper, *source, *words], folder, ASANCOL_CC="gcc").returncode, 0, "the build")
+            expect(noted(f"{folder}/hidden"), wanted, f"{words}: the note of {wrapper}")
+    said = run([wrappers["none"], "-v", "-c", *source[:2]], folder, ASANCOL_CC="gcc").stderr
+    expect(b"libasancol_gcc.so: missing for this version of GCC" in said, True, "-v")
 
 
 def tests(suite: Suite, compiler: Compiler) -> None:
@@ -122,5 +132,8 @@ def tests(suite: Suite, compiler: Compiler) -> None:
         suite.test(f"{compiler} hidden accesses {' '.join(flags)}", check_c, compiler, plain, flags)
     if compiler.name == "gcc":
         suite.test(f"{compiler} hidden accesses without its plugin", check_without_plugin)
+        for it in versions_of("gcc"):
+            if has_plugin_for(CC, it):
+                suite.test(f"{it} hidden accesses -O2", check_c, it, plain, ["-O2"])
     for flags in (["-O0"], ["-O2"]) if compiler.cxx else ():
         suite.test(f"{compiler} hidden accesses c++ {' '.join(flags)}", check_cpp, compiler, flags)

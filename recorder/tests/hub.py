@@ -638,8 +638,9 @@ def check_word(suite: Suite, folder: str, program: str, lives: str) -> None:
     expect(marks(folder), [(program, room)], "without room for the shadow")
     peers, _ = run_under(folder, [program, "behind"], ASANCOL_TRACE=f"{folder}/elsewhere")
     expect((peers, [it for it, _ in marks(folder)]), ([], [program]), "with a trace that goes elsewhere")
-    peers, _ = run_under(folder, [lives, "forks_quietly"])
-    expect(marks(folder), [(lives, "it was not made by fork, but by _Fork or clone")], "a fork that nothing announces")
+    peers, _ = run_under(folder, [lives, "forks_by_the_system"])
+    why = "it was not made by fork, but by a call of the system"
+    expect(marks(folder), [(lives, why)], "a fork that nothing announces")
     name = f"/dev/null/{next(NUMBERS)}"
     with socket.socket(socket.AF_UNIX) as asked:
         asked.bind(f"\0{name}/ask")

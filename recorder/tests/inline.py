@@ -288,6 +288,42 @@ def check_left(suite: Suite, folder: str, compiler: Compiler, *options: str) -> 
             expect(([it.split()[-1] for it in texts], end.split()[0]), (wanted, "closed"), f"{trace}: {texts[:3]}")
 
 
+# What each run of vain.c reports.
+OF_VAIN = ["heap-buffer-overflow", "stack-buffer-overflow", "global-buffer-overflow", "use-after-poison"]
+
+
+def check_vain(suite: Suite, folder: str, compiler: Compiler) -> None:
+    """Calls that the system refuses answer as alone, and no redzone and no poison is lost by them."""
+    make(compiler, folder, "vain.c", f"{folder}/vain", "-O0")
+    make(compiler, folder, "vain.c", f"{folder}/alone", "-O0", native=True)
+    for name in run(["./alone"], folder).stdout.decode().split():
+        ran = run(["./vain", name], folder, ASANCOL_TRACE=f"{name}.trace")
+        expect((ran.returncode, ran.stdout), (0, run(["./alone", name], folder).stdout), name)
+        wrong = [text.split()[-1] for text in reports(suite.asancol, f"{folder}/{name}.trace")[1]]
+        expect(wrong, OF_VAIN, name)
+
+
+# What a run of large.c prints, as it does alone, and how many reports of a class it has.
+OF_LARGE = {
+    "thread_local_memory": ("0\n" * 2, {"use-after-poison": 4}),
+    "alignments": ("".join(f"{shift}: 0 1 1\n1 1 1\n" for shift in range(29, 34)),
+                   {"heap-buffer-overflow": 5, "heap-use-after-free": 5}),
+    "arguments": ("1 2 3 4 5 6 7\n" * 2 + "8 9 10 11 12 13 14\n15 16 17 18 19 20 21\n22 23 24 0 0 0 0\n",
+                  {"stack-buffer-overflow": 1}),
+    "below_the_shadow": ("1\n-56 50\n", {"use-after-poison": 2}),
+}
+
+
+def check_large(suite: Suite, folder: str, compiler: Compiler) -> None:
+    """Larger sizes and numbers than usual work as they do alone, and are checked."""
+    make(compiler, folder, "large.c", f"{folder}/large", "-O0")
+    for name, (printed, wanted) in OF_LARGE.items():
+        ran = run(["./large", name], folder, ASANCOL_TRACE=f"{name}.trace")
+        expect((ran.returncode, ran.stdout.decode()), (0, printed), f"{name}: {ran.stderr!r}")
+        wrong = [text.split()[-1] for text in reports(suite.asancol, f"{folder}/{name}.trace")[1]]
+        expect({it: wrong.count(it) for it in wrong}, wanted, name)
+
+
 # How many reports a run of switches.c has, if any.
 SWITCHES = {
     "fault_in_coroutine": 2,
@@ -316,6 +352,42 @@ def check_switches(suite: Suite, folder: str, compiler: Compiler, level: str) ->
             wanted = ["store 4 stack-buffer-overflow"] * SWITCHES.get(name, 0)
             if [re.sub(r" \+\d+", "", text) for text in texts] != wanted:
                 said[f"{name} {where}"] = (len(texts), texts[:2])
+    expect(said, {}, "other reports")
+
+
+# How many reports a run of stacks.cpp has, and how many more if the stack is static.
+STACKS = {
+    "faults_in_context": (2, 0),
+    "faults_beside_context": (3, 2),
+    "faults_between_jumps": (5, 2),
+    "left_by_jump": (0, 0),
+    "left_by_builtin": (2, 2),
+    "left_by_builtin_on_own": (2, 2),
+    "faults_on_own": (4, 2),
+    "faults_after_jump_out": (2, 2),
+    "faults_of_others": (2, 0),
+    "faults_after_handler": (2, 2),
+    "faults_after_disarmed": (2, 2),
+    "faults_after_child": (2, 2),
+    "faults_in_many": (1500, 0),
+}
+
+
+def check_stacks(suite: Suite, folder: str, compiler: Compiler, level: str, *flags: str) -> None:
+    """Exceptions, jumps and calls that do not return, on stacks of the program's own: no redzone of a frame that goes
+    on is lost, and none beside the stack, and none is left over. Also where mappings lie near the first thread's stack.
+    """
+    make(compiler, folder, "stacks.cpp", f"{folder}/stacks", level, *flags)
+    said = {}
+    for name, (wanted, of_static) in STACKS.items():
+        for way in ("s", "h", "m", "m not at random"):
+            argv = ["setarch", "-R", "./stacks"] if "not" in way else ["./stacks"]
+            ran = run(["timeout", "60", *argv, name, way[0]], folder, ASANCOL_TRACE="t.trace")
+            _, texts, end = reports(suite.asancol, f"{folder}/t.trace", most=2000)
+            os.unlink(f"{folder}/t.trace")
+            expect((ran.returncode, ran.stderr, end.split()[0]), (0, b"", "closed"), f"{name} {way}")
+            if len(texts) != wanted + (of_static if way == "s" else 0):
+                said[f"{name} {way}"] = (len(texts), texts[:5])
     expect(said, {}, "other reports")
 
 
@@ -451,8 +523,12 @@ def tests(suite: Suite, compiler: Compiler) -> None:
         option = f"-fsanitize-address-use-after-return={way}"
         suite.test(f"{compiler} inline left, fake frames {way}", check_left, compiler, "-O1", option)
     suite.test(f"{compiler} inline switches", check_switches, compiler, "-O1")
+    suite.test(f"{compiler} inline refused calls", check_vain, compiler)
+    suite.test(f"{compiler} inline large", check_large, compiler)
     if compiler.cxx:
         suite.test(f"{compiler} inline fibers", check_fibers, compiler)
+        for level in ("-O0", "-O2"):
+            suite.test(f"{compiler} inline other stacks {level}", check_stacks, compiler, level)
     suite.test(f"{compiler} inline seldom calls", check_seldom_calls, compiler)
     suite.test(f"{compiler} inline sizes", check_sizes, compiler)
     suite.test(f"{compiler} inline layouts", check_layouts, compiler)

@@ -276,6 +276,20 @@ NOT_INLINE static void in_former_region()
     __lsan_unregister_root_region(room, 1 << 16);
 }
 
+/* Each cell is a region; but every second one is none any more, one of which has a block. */
+NOT_INLINE static void in_many_regions()
+{
+    const size_t cells = (1 << 16) / sizeof(void *);
+    void **room = map_room();
+    for (size_t i = 0; i < cells; i++)
+        __lsan_register_root_region(&room[i], sizeof *room);
+    for (size_t i = 1; i < cells; i += 2)
+        __lsan_unregister_root_region(&room[i], sizeof *room);
+    for (size_t i = 0; i < cells; i += 2)
+        room[i] = malloc(77);
+    room[1] = malloc(76);
+}
+
 NOT_INLINE static void in_mapping() { map_room()[3] = malloc(78); }
 
 NOT_INLINE static void many()
@@ -377,17 +391,43 @@ int main(int count, char **argv)
         const char *name;
         void (*run)();
     } runs[] = {
-        {"direct", direct}, {"none_of_bytes", none_of_bytes}, {"indirect", indirect}, {"cycle", cycle},
-        {"chain", chain}, {"kept_chain", kept_chain}, {"in_global", in_global}, {"in_thread_local", in_thread_local},
-        {"inside", inside}, {"past_the_end", past_the_end}, {"unaligned", unaligned}, {"large", large},
-        {"by_key", by_key}, {"on_other_stack", on_other_stack}, {"in_other_register", in_other_register},
-        {"in_vector_register", in_vector_register}, {"of_ended_thread", of_ended_thread},
-        {"with_blocked_signals", with_blocked_signals}, {"in_handler", in_handler}, {"of_vector", of_vector},
-        {"shared_cycle", shared_cycle}, {"empty_array", empty_array}, {"disabled", disabled}, {"ignored", ignored},
-        {"in_root_region", in_root_region}, {"in_former_region", in_former_region}, {"in_mapping", in_mapping},
-        {"many", many}, {"of_statics", of_statics}, {"of_library_of_c", of_library_of_c}, {"of_getline", of_getline},
-        {"in_loaded_library", in_loaded_library}, {"in_closed_library", in_closed_library},
-        {"in_exit_handler", in_exit_handler}, {"when_asked", when_asked}, {"by_exit", by_exit},
+        {"direct", direct},
+        {"none_of_bytes", none_of_bytes},
+        {"indirect", indirect},
+        {"cycle", cycle},
+        {"chain", chain},
+        {"kept_chain", kept_chain},
+        {"in_global", in_global},
+        {"in_thread_local", in_thread_local},
+        {"inside", inside},
+        {"past_the_end", past_the_end},
+        {"unaligned", unaligned},
+        {"large", large},
+        {"by_key", by_key},
+        {"on_other_stack", on_other_stack},
+        {"in_other_register", in_other_register},
+        {"in_vector_register", in_vector_register},
+        {"of_ended_thread", of_ended_thread},
+        {"with_blocked_signals", with_blocked_signals},
+        {"in_handler", in_handler},
+        {"of_vector", of_vector},
+        {"shared_cycle", shared_cycle},
+        {"empty_array", empty_array},
+        {"disabled", disabled},
+        {"ignored", ignored},
+        {"in_root_region", in_root_region},
+        {"in_many_regions", in_many_regions},
+        {"in_former_region", in_former_region},
+        {"in_mapping", in_mapping},
+        {"many", many},
+        {"of_statics", of_statics},
+        {"of_library_of_c", of_library_of_c},
+        {"of_getline", of_getline},
+        {"in_loaded_library", in_loaded_library},
+        {"in_closed_library", in_closed_library},
+        {"in_exit_handler", in_exit_handler},
+        {"when_asked", when_asked},
+        {"by_exit", by_exit},
         {"protected_block", protected_block},
     };
     for (const auto &it : runs)

@@ -41,6 +41,7 @@ WAYS: Dict[str, Lost] = {
     "disabled": (100, 1, 0, 0),
     "ignored": NOTHING,
     "in_root_region": NOTHING,
+    "in_many_regions": (76, 1, 0, 0),
     "in_former_region": (77, 1, 0, 0),
     "in_mapping": (78, 1, 0, 0),
     "many": (6000, 1000, 0, 0),

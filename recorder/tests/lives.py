@@ -54,7 +54,7 @@ LIVES: Dict[str, Tuple[int, str, List[str]]] = {
 
 
 # They have a child that nothing announces, and a line says that it is not recorded.
-UNANNOUNCED = ("forks_by_the_system", "forks_quietly", "clones")
+UNANNOUNCED = ("forks_by_the_system",)
 
 
 def check_life(suite, folder, program, name, status, fate, wanted):
@@ -222,7 +222,8 @@ static void first(void)
     block = malloc(8);
     freed = malloc(8);
     free(freed);
-    freed[1] = block[past] = 1;
+    block[past] = 1;
+    freed[1] = 1;
     free(block);
     free(block);
 }

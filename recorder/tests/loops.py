@@ -11,7 +11,7 @@ import shutil
 from typing import Counter, List, Sequence, Tuple
 
 import loop_forms
-from support import CC, RECORDER, TESTS, TOP, Compiler, Suite, expect, leave_out, run
+from support import CC, RECORDER, TESTS, TOP, Compiler, Suite, expect, leave_out, run, versions_of
 
 RUN = f"{TOP}/run/asancol-run"
 LOOPS = "--asancol-loops"
@@ -26,7 +26,7 @@ RUNS = [(["table"], 1000), (["wild"], 0), *((["drawn", str(seed), "200"], 100) f
 FORMS = 80
 # What differs from build to build: the process, code, and memory outside the heap.
 VARIES = [(r"==\d+==", "==PID=="), (r" 0x[0-9a-f]{3,8} in ", " CODE in "), (r"0x[57][0-9a-f]{11}\b", "ADDRESS"),
-          (r"process \d+ \S+:", "process:")]
+          (r"\b0x[0-9a-f]{6,8} is ", "ADDRESS is "), (r"process \d+ \S+:", "process:")]
 
 
 def has_loops(compiler: Compiler) -> bool:
@@ -277,14 +277,75 @@ def check_cache(_suite: Suite, folder: str, compiler: Compiler) -> None:
     expect(sizes[0] < sizes[1], True, f"{sizes}")
 
 
+def check_loaded(_suite: Suite, folder: str, compiler: Compiler) -> None:
+    """Its passes run at each level, and before a link that optimises."""
+    write_many(folder, 20)
+    for flags in (["-O1"], ["-O2"], ["-O3"], ["-O2", "-flto"], ["-O2", "-flto=thin"]):
+        made = run([CC, *flags, "-S", "many.c", LOOPS], folder, ASANCOL_CC=compiler.name)
+        expect((made.returncode, made.stderr), (0, b""), f"{flags}")
+        with open(f"{folder}/many.s", encoding="utf-8") as file:
+            expect("__asan_good_loop" in file.read(), True, f"{flags}: copies")
+
+
+def write_headers(folder: str, text: str) -> None:
+    """Those of a version of LLVM, as far as make looks at them."""
+    for name in ("Passes/PassBuilder.h", "Config/llvm-config.h", "ADT/SmallVector.h"):
+        os.makedirs(f"{folder}/include/llvm/{os.path.dirname(name)}", exist_ok=True)
+        with open(f"{folder}/include/llvm/{name}", "w", encoding="utf-8") as file:
+            file.write(text)
+
+
+def check_left_out(_suite: Suite, folder: str) -> None:
+    """Passes that do not compile are named and left out, and tried again with other headers. make goes on."""
+    for name in os.listdir(RECORDER):
+        if os.path.isdir(f"{RECORDER}/{name}") and name != "out":
+            os.symlink(f"{RECORDER}/{name}", f"{folder}/{name}")
+    with open(f"{folder}/llvm-config", "w", encoding="utf-8") as file:
+        file.write(f"#!/bin/sh\ncase $1 in --version) echo 77.1.0;; *) echo {folder}/include;; esac\n")
+    os.chmod(f"{folder}/llvm-config", 0o755)
+    product, said = f"{folder}/libasancol_loops_77.so", f"{folder}/out/loops/77/whole.said"
+    for text in ("#error one\n", "#error other\n"):
+        write_headers(folder, text)
+        with open(product, "w", encoding="utf-8"):
+            os.utime(product, (1, 1))
+        stamps = set()
+        for _ in range(2):
+            made = run(["make", "-s", "-f", f"{RECORDER}/Makefile", f"TOP={TOP}", f"LLVM_CONFIGS={folder}/llvm-config",
+                        "libasancol_loops_77.so", "libasancol_loops.so"], folder)
+            of = f"{text}{made.stderr.decode()}"
+            there = [os.path.exists(it) for it in (product, f"{folder}/libasancol_loops.so")]
+            expect((made.returncode, there), (0, [False, True]), of)
+            expect(b"libasancol_loops_77.so is left out: whole.cpp does not compile" in made.stderr, True, of)
+            stamps.add(os.stat(said).st_mtime_ns)
+        with open(said, encoding="utf-8") as file:
+            expect((text.strip() in file.read(), len(stamps)), (True, 1), f"{text}: compiled once")
+
+
+def other_tests(suite: Suite) -> None:
+    """A part of them for all other versions of LLVM."""
+    for compiler in versions_of("clang"):
+        if not has_loops(compiler):
+            leave_out(f"the plugin for loops of {compiler} is not there")
+            continue
+        suite.test(f"{compiler} loops loaded", check_loaded, compiler)
+        suite.test(f"{compiler} loops same -O2", check_same, compiler, ["-O2"])
+        suite.test(f"{compiler} loops rest -O2", check_rest, compiler, ["-O2"])
+
+
+def tests_of_all(suite: Suite) -> None:
+    suite.test("plugin that does not compile", check_left_out)
+
+
 def tests(suite: Suite, compiler: Compiler) -> None:
     if compiler.name != "clang":
         return
+    other_tests(suite)
     if not has_loops(compiler):
         leave_out(f"the plugin for loops of {compiler} is not there")
         return
     suite.test(f"{compiler} loops options", check_options, compiler)
     suite.test(f"{compiler} loops broken", check_broken, compiler)
+    suite.test(f"{compiler} loops loaded", check_loaded, compiler)
     suite.test(f"{compiler} loops growth", check_growth, compiler)
     suite.test(f"{compiler} loops deep", check_deep, compiler)
     if shutil.which("llvm-profdata"):

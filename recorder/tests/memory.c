@@ -1,6 +1,7 @@
 /* What memory a process has, as the system counts it: `memory NAME` ends with 0 if it is as it should be. */
 #define _GNU_SOURCE
 #include <fcntl.h>
+#include <link.h>
 #include <malloc.h>
 #include <stdint.h>
 #include <stdio.h>
@@ -246,6 +247,23 @@ static void is_refused(void)
     fill(1500, 40 * KB);
 }
 
+static int add_data(struct dl_phdr_info *module, size_t size, void *data)
+{
+    (void)size;
+    for (int i = 0; i < module->dlpi_phnum; i++)
+        if (module->dlpi_phdr[i].p_type == PT_LOAD && (module->dlpi_phdr[i].p_flags & PF_W))
+            *(size_t *)data += module->dlpi_phdr[i].p_memsz;
+    return 0;
+}
+
+/* What a conservative collector goes through. */
+static void has_little_data(void)
+{
+    size_t data = 0;
+    dl_iterate_phdr(add_data, &data);
+    WANT(data != 0 && data < MB);
+}
+
 int main(int count, char **argv)
 {
     static const struct {
@@ -261,7 +279,8 @@ int main(int count, char **argv)
                     {"gets_zeros", gets_zeros},
                     {"is_locked", is_locked},
                     {"forks", forks},
-                    {"is_refused", is_refused}};
+                    {"is_refused", is_refused},
+                    {"has_little_data", has_little_data}};
     for (size_t i = 0; count > 1 && i < sizeof programs / sizeof *programs; i++)
         if (strcmp(argv[1], programs[i].name) == 0)
             return programs[i].run(), 0;

@@ -3,7 +3,7 @@
 from support import TESTS, Compiler, Suite, expect, run
 
 NAMES = ("falls", "stays", "never_grows", "grows_by_doubling", "falls_at_once_if_large", "is_bounded", "trims",
-         "gets_zeros", "is_locked", "forks", "is_refused")
+         "gets_zeros", "is_locked", "forks", "is_refused", "has_little_data")
 
 
 def check_memory(suite: Suite, folder: str, program: str, name: str, is_recorded: bool) -> None:

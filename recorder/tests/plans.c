@@ -15,6 +15,7 @@ static unsigned char memory[MEMORY];
 /* Address 0 has the first byte of it. */
 #define SHADOW_START ((uint64_t)(uintptr_t)memory)
 
+#include "tests/fuzz/tables.h"
 #include "heap/book.c"
 #include "heap/deciding.c"
 
@@ -140,9 +141,9 @@ static void say(const char *what, uintptr_t granule)
     printf("%s at granule %#jx of shadow %02x, with a block at %#jx of %u bytes in state %d, and %u entries:", what,
            (uintmax_t)granule, *shadow_of(granule), (uintmax_t)seen.start, seen.size, (int)seen.state, book.count);
     for (uint32_t i = 0; i < book.count; i++)
-        printf(" %#jx of %u%s%s%s", (uintmax_t)book.entries[i].start, book.entries[i].size,
-               book.entries[i].is_held ? " held" : "", book.entries[i].is_stale ? " stale" : "",
-               book.entries[i].is_poisoned ? " poisoned" : "");
+        printf(" %#jx of %u%s%s%s", (uintmax_t)book_entries[i].start, book_entries[i].size,
+               book_entries[i].is_held ? " held" : "", book_entries[i].is_stale ? " stale" : "",
+               book_entries[i].is_poisoned ? " poisoned" : "");
     printf("\n");
 }
 
@@ -221,7 +222,7 @@ static bool is_book(const struct proved_entry *entries, uint32_t count, const st
     bool is = book.count == count + planned->has_new, has_new = !planned->has_new;
     for (uint32_t i = 0; is && i < book.count; i++) {
         bool is_new = !has_new && (at == count || planned->new_one.at < entries[at].at);
-        is = is_same(&book.entries[i], is_new ? &planned->new_one : &entries[at]);
+        is = is_same(&book_entries[i], is_new ? &planned->new_one : &entries[at]);
         has_new |= is_new;
         at += !is_new;
     }
@@ -232,8 +233,8 @@ static uint64_t held_of_book(void)
 {
     uint64_t held = 0;
     for (uint32_t i = 0; i < book.count; i++)
-        if (book.entries[i].is_held)
-            held += span_bytes(book.entries[i].size);
+        if (book_entries[i].is_held)
+            held += span_bytes(book_entries[i].size);
     return held;
 }
 
@@ -251,7 +252,7 @@ static struct proved proved_book(void)
 {
     struct proved proved = {.count = book.count};
     for (uint32_t i = 0; i < book.count; i++)
-        proved.entries[i] = proved_of(&book.entries[i]);
+        proved.entries[i] = proved_of(&book_entries[i]);
     book.held_bytes = held_of_book();
     return proved;
 }
@@ -334,8 +335,8 @@ static void compare_release(const struct entry *entry, uintptr_t start, uint32_t
 {
     struct proved_entry proved = proved_of(entry);
     struct found itself = {entry->start, entry->size, entry->is_held};
-    book.entries[0] = *entry;
-    book.entries[0].turn = units[UNIT_HERE].turns;
+    book_entries[0] = *entry;
+    book_entries[0].turn = units[UNIT_HERE].turns;
     book.count = 1;
     if (!asan_plan_release(&proved, start, size))
         return say("not asked of a release", start);
@@ -351,15 +352,15 @@ static void compare(uintptr_t granule)
 {
     struct entry entries[MOST];
     uint32_t count = book.count;
-    memcpy(entries, book.entries, count * sizeof *entries);
+    memcpy(entries, book_entries, count * sizeof *entries);
     compare_granule(granule);
-    memcpy(book.entries, entries, count * sizeof *entries);
+    memcpy(book_entries, entries, count * sizeof *entries);
     book.count = count;
     compare_access(granule);
     bool is_held = seen.state == BLOCK_HELD;
     if (!is_held && seen.state != BLOCK_FREE)
         return;
-    memcpy(book.entries, entries, count * sizeof *entries);
+    memcpy(book_entries, entries, count * sizeof *entries);
     book.count = count;
     compare_free(is_held ? seen.start : granule, is_held);
 }
@@ -398,7 +399,7 @@ static void compare_book(const struct search *of, const struct entry *entries, u
     for (unsigned shade = 0; shade < of->shades; shade++) {
         memory[GRANULE_HERE / GRANULE] = shades[shade];
         memory[GRANULE_HERE / GRANULE + 1] = shades[next++ % SHADES];
-        memcpy(book.entries, entries, count * sizeof *entries);
+        memcpy(book_entries, entries, count * sizeof *entries);
         book.count = count;
         compare(GRANULE_HERE);
     }
@@ -464,12 +465,12 @@ static void compare_drawn(void)
     while (book.count < MOST && from < LAST) {
         from += draw(16) * GRANULE;
         struct entry entry = entry_of(from, (uint32_t)draw(100), (unsigned)draw(FLAGS));
-        if (can_follow(book.entries, book.count, &entry))
-            book.entries[book.count++] = entry;
+        if (can_follow(book_entries, book.count, &entry))
+            book_entries[book.count++] = entry;
     }
     /* Often one of the book's. */
-    const struct entry *own = &book.entries[draw(MOST)];
-    bool is_own = draw(2) && own < &book.entries[book.count];
+    const struct entry *own = &book_entries[draw(MOST)];
+    bool is_own = draw(2) && own < &book_entries[book.count];
     seen.start = is_own ? own->start : granule - draw(8) * GRANULE;
     seen.size = is_own ? own->size : (uint32_t)draw(200);
     seen.state = (enum block_state)draw(3);

@@ -144,6 +144,33 @@ def check_without_module(suite: Suite, folder: str, compiler: Compiler) -> None:
     expect(reports(suite.asancol, trace)[2].split()[0], "no-close", "no access was seen")
 
 
+# As a user who may lock little: else the shadow would take all memory that there is, if it were locked.
+LOCKS = """
+#include <linux/capability.h>
+#include <sys/mman.h>
+#include <sys/resource.h>
+#include <sys/syscall.h>
+#include <unistd.h>
+int main(void) {
+    struct __user_cap_header_struct header = {_LINUX_CAPABILITY_VERSION_3, 0};
+    struct __user_cap_data_struct rights[_LINUX_CAPABILITY_U32S_3];
+    struct rlimit most = {8 << 20, 8 << 20};
+    syscall(SYS_capget, &header, rights);
+    rights[0].effective &= ~(1U << CAP_IPC_LOCK);
+    if (syscall(SYS_capset, &header, rights) != 0 || setrlimit(RLIMIT_MEMLOCK, &most) != 0)
+        return 2;
+    return mlockall(MCL_CURRENT | MCL_FUTURE) != 0 || munlockall() != 0;
+}
+"""
+
+
+def check_locked(_suite: Suite, folder: str, compiler: Compiler) -> None:
+    """A plain program locks its memory before a module has come, and not the shadow, for which there is no room."""
+    write(folder, locks_c=LOCKS)
+    compiler.c(folder, ["locks.c"], f"{folder}/locks", native=True)
+    expect(preloaded(folder, "./locks").returncode, 0, "the program")
+
+
 def check_halt(suite: Suite, folder: str, compiler: Compiler) -> None:
     build_both(folder, compiler)
     for halt in ("1", "2"):
@@ -328,7 +355,8 @@ CLONES = """
 int main(void)
 {
     int status;
-    long child = syscall(SYS_clone, SIGCHLD, 0, 0, 0, 0);
+    long child;
+    __asm__ volatile("syscall" : "=a"(child) : "a"(SYS_clone), "D"(SIGCHLD), "S"(0), "d"(0) : "rcx", "r11", "memory");
     if (child == 0)
         _exit(dlopen("./module.so", RTLD_NOW) == NULL);
     return waitpid((pid_t)child, &status, 0) != child || status != 0;
@@ -363,7 +391,8 @@ def tests(suite: Suite, compiler: Compiler) -> None:
         suite.test(f"{compiler} preloaded, host {link}", check_cases, compiler, link)
         suite.test(f"{compiler} preloaded, calls, host {link}", check_calls, compiler, link)
     for name, test in (("processes", check_processes), ("ends", check_ends), ("no module", check_without_module),
-                       ("halt", check_halt), ("steps aside", check_aside), ("beside another", check_others),
+                       ("locked", check_locked), ("halt", check_halt), ("steps aside", check_aside),
+                       ("beside another", check_others),
                        ("no room", check_no_room), ("families", check_families),
                        ("linked otherwise", check_linked_otherwise), ("linked with it", check_linked_with),
                        ("clone", check_clone), ("RTLD_DEEPBIND", check_deep)):

@@ -41,9 +41,9 @@ MOST: Dict[str, Most] = {
     "not": Most(50, 58, 12, 1, 8),
     "trace": Most(119, 127, 25, 1, 23),
     "trace with faults": Most(144, 147, 39, 1, 40),
-    "trace with faults and leaks": Most(163, 167, 57, 1, 40),
+    "trace with faults and leaks": Most(169, 173, 63, 1, 40),
     "hub": Most(115, 115, 37, 1, 40),
-    "hub and leaks": Most(133, 135, 55, 1, 40),
+    "hub and leaks": Most(140, 141, 61, 1, 40),
 }
 
 

@@ -42,7 +42,7 @@ def check_own_names(suite, folder, compiler):
     ours = ("__wrap_", "main", "asancol_", "__asan_", "__sanitizer_", "__lsan_")
     names = {name for name in names | {"arena", "locked", "shared"} if not name.startswith(ours)}
     names -= {"malloc", "free", "calloc", "realloc", "reallocarray", "memalign", "aligned_alloc", "posix_memalign"}
-    names -= {"valloc", "pvalloc", "malloc_usable_size", "__attribute__"}
+    names -= {"valloc", "pvalloc", "malloc_usable_size", "__attribute__", "_Unwind_SetIP"}  # the last is the language's
     expect(len(names) > 100, True, "names")
     write(folder, main_c=PAST_THE_END, helper_c=HELPER, names_c="".join(f"int {name};\n" for name in sorted(names)))
     for flags in ([], ["-static"]):

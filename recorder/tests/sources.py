@@ -15,7 +15,8 @@ OUT = f"{RECORDER}/out/program"
 ROOTS = ("-iquote", RECORDER, "-iquote", os.path.dirname(RECORDER))
 
 # Names that are not functions, or are the program's.
-CONSTANT = set("_GLOBAL_OFFSET_TABLE_ _DYNAMIC __ehdr_start main asancol_checks asancol_register_early "
+CONSTANT = set("_GLOBAL_OFFSET_TABLE_ _DYNAMIC __ehdr_start __preinit_array_start main asancol_checks "
+               "asancol_register_early "
                "__lsan_is_turned_off asancol_every_call asancol_every_memcpy asancol_every_memmove "
                "asancol_every_memset __start_asancol_own_text __stop_asancol_own_text "
                "__start_asancol_helper_text __stop_asancol_helper_text".split())
@@ -39,9 +40,9 @@ BESIDES = {
                         "__stop_asancol_stubs"},
     "process/process.o": {"__register_atfork"},
     "process/threads.o": {"pthread_attr_destroy", "pthread_attr_getstacksize", "pthread_getattr_default_np",
-                          "pthread_key_create", "pthread_setspecific"},
+                          "pthread_key_create", "pthread_setspecific", "_dl_get_tls_static_info"},
     "process/unchecked.o": {"dlerror", "dlsym"},
-    "start/start.o": {"__cxa_atexit", "__cxa_at_quick_exit", "_IO_flush_all", "exit", "on_exit"},
+    "start/start.o": {"__cxa_atexit", "__cxa_at_quick_exit", "_IO_flush_all", "exit", "fcloseall", "on_exit"},
 }
 # The checks of calls: each calls the function that the program has called, in a handler too where that may be.
 CHECKS_OF_CALLS = "calls/"
@@ -64,9 +65,11 @@ def own_names(object_file: str) -> Set[str]:
 
 
 def objects() -> List[str]:
-    """Returns the objects of which all.o is made and those beside it, by their names in `out`."""
+    """Returns the objects of which all.o is made and those beside it, by their names in `out`, except of sources that
+    were moved since."""
     found = sorted(glob.glob(f"{OUT}/**/*.o", recursive=True))
-    return [it for it in (os.path.relpath(path, OUT) for path in found) if it not in WHOLE]
+    names_of = [os.path.relpath(path, OUT) for path in found]
+    return [it for it in names_of if it not in WHOLE and os.path.exists(f"{RECORDER}/{it[:-2]}.c")]
 
 
 def called_by_address(part: str) -> Set[str]:

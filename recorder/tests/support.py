@@ -208,10 +208,35 @@ def compilers():
     return found
 
 
+# The versions that Debian has, from release to release.
+VERSIONS = {"gcc": (11, 12), "clang": (13, 14, 15, 16, 19, 22)}
+
+
+def versions_of(name):
+    """The other versions of a compiler that are there, and any newer or older than Debian's."""
+    found, own = [], os.path.realpath(shutil.which(name) or name)
+    numbers = {int(it[1]) for it in map(re.compile(rf"{name}-(\d+)$").match, programs_there()) if it}
+    for number in sorted(numbers | set(VERSIONS[name])):
+        path, cxx = shutil.which(f"{name}-{number}"), f"{'g++' if name == 'gcc' else 'clang++'}-{number}"
+        if path is None:
+            leave_out(f"{name}-{number} is not there")
+        elif os.path.realpath(path) != own:
+            found.append(Compiler(f"{name}-{number}", cxx if shutil.which(cxx) else None))
+    return found
+
+
+def programs_there():
+    return [name for place in os.environ["PATH"].split(":") if os.path.isdir(place) for name in os.listdir(place)]
+
+
 def has_plugin(front):
     """Whether a wrapper has a plugin for the GCC that it runs."""
     name = {"ASANCOL_CC": "gcc"} if front == CC else {}
     return b"-fplugin=" in run([front, "-###", "-c", "any.c"], ".", **name).stderr
+
+
+def has_plugin_for(front, compiler):
+    return b"-fplugin=" in run([front, "-###", "-c", "any.c"], ".", ASANCOL_CC=compiler.name).stderr
 
 
 # The report of a program that stores a byte past a block of 8.

@@ -10,12 +10,13 @@ from support import RECORDER, Compiler, Suite, expect, reports, run, write
 from testing.programs import call
 
 # What a program has as a program: made by the linker, or its start.
-LINKED = set("_DYNAMIC _GLOBAL_OFFSET_TABLE_ __ehdr_start _end __init_array_start __init_array_end main".split())
+LINKED = set("_DYNAMIC _GLOBAL_OFFSET_TABLE_ __ehdr_start _end __preinit_array_start __init_array_start "
+             "__init_array_end main asancol_first".split())
 
 # The C library's names where it is a part of the program: names that are kept for it, one for malloc_stats, and `exit`,
 # which its start calls, too.
 STATIC = """
-stderr _IO_flush_all _IO_fputs __clock_gettime __cxa_at_quick_exit __cxa_atexit __environ __errno_location
+stderr _IO_cleanup _IO_flush_all _IO_fputs __clock_gettime __cxa_at_quick_exit __cxa_atexit __environ __errno_location
 __libc_single_threaded __libc_stack_end __on_exit __register_atfork __sigaction _dl_find_object exit
 """.split()
 

@@ -225,6 +225,83 @@ def check_walks(_suite: Suite, folder: str, compiler: Compiler) -> None:
     expect((ran.returncode, ran.stdout, ran.stderr), (0, b"", b""), "the program")
 
 
+MANY = """
+#include <pthread.h>
+#include <sched.h>
+#include <signal.h>
+#include <stdatomic.h>
+#include <stdio.h>
+#include <stdlib.h>
+#include <string.h>
+#include <time.h>
+static atomic_int used;
+static long pages(void)
+{
+    long all, now;
+    FILE *file = fopen("/proc/self/statm", "r");
+    if (fscanf(file, "%ld %ld", &all, &now) != 2)
+        abort();
+    fclose(file);
+    return now;
+}
+static void *use(void *block)
+{
+    free(block);
+    free(memset(malloc(1000), 1, 1000));
+    used++;
+    return malloc(100);
+}
+static void at_timer(union sigval value) { free(use(value.sival_ptr)); }
+static void by_timer(int count)
+{
+    struct sigevent event = {.sigev_notify = SIGEV_THREAD, .sigev_notify_function = at_timer};
+    struct itimerspec soon = {.it_value = {0, 1000}};
+    for (int i = 0, before = used; i < count; i++, before = used) {
+        timer_t timer;
+        if (timer_create(CLOCK_MONOTONIC, &event, &timer) != 0 || timer_settime(timer, 0, &soon, NULL) != 0)
+            abort();
+        while (used == before)
+            sched_yield();
+        timer_delete(timer);
+    }
+}
+static void by_program(int count)
+{
+    pthread_t threads[8];
+    for (int i = 0; i < count; i++) {
+        void *block;
+        if (i >= 8 && pthread_join(threads[i % 8], &block) == 0)
+            free(block);
+        if (pthread_create(&threads[i % 8], NULL, use, malloc(10)) != 0)
+            abort();
+    }
+    for (int i = 0; i < 8; i++)
+        pthread_join(threads[i], NULL);
+}
+int main(int count, char **argv)
+{
+    void (*many)(int) = count == 2 ? by_timer : by_program;
+    many(64);
+    long before = pages();
+    many(atoi(argv[1]));
+    printf("%ld\\n", (pages() - before) * 4 / 1024);
+    return 0;
+}
+"""
+
+
+def check_many(suite: Suite, folder: str, compiler: Compiler, is_static: bool) -> None:
+    """Threads whose end nobody sees, of the C library or of a static program, leave no memory behind."""
+    write(folder, many_c=MANY)
+    compiler.c(folder, ["many.c"], "many", "-O1", "-pthread", *["-static"] * is_static)
+    recorded = {"ASANCOL_TRACE": "%p.trace", "ASANCOL_FULL": "0", "ASANCOL_WHERE": "1"}
+    unrecorded: Dict[str, str] = {}
+    for settings in (unrecorded, recorded):
+        ran = run(["./many", "2000", *["static"] * is_static], folder, **settings)
+        expect((ran.returncode, ran.stderr), (0, b""), "the program")
+        expect(int(ran.stdout) < 8, True, f"2,000 threads left {int(ran.stdout)} MB, with {settings}")
+
+
 def tests(suite: Suite, compiler: Compiler) -> None:
     suite.test(f"{compiler} places of walks", check_walks, compiler)
     sources, name = [f"{TESTS}/threads.c"], f"threads-{compiler}"
@@ -239,5 +316,7 @@ def tests(suite: Suite, compiler: Compiler) -> None:
                        ("segments", check_segments), ("crash", check_crash)):
         suite.test(f"{compiler} which threads: {way}", check, program)
     suite.test(f"{compiler} which threads: of a shared object", check_library, compiler)
+    suite.test(f"{compiler} memory of threads: of timers", check_many, compiler, False)
+    suite.test(f"{compiler} memory of threads: of a static program", check_many, compiler, True)
     if compiler.cxx:
         suite.test(f"{compiler} which threads: of C++", check_cpp, compiler)

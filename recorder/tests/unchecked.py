@@ -352,10 +352,48 @@ __attribute__((no_sanitize("address"), noinline)) int one(char *p) { return p[0]
 __attribute__((no_sanitize_address, noinline)) int two(char *p) { return one(p + 1); }
 __attribute__((used)) int with_checks(char *p) { return two(p) + of_system(p) + of_own(p); }
 """
+LAMBDAS = """
+#include <coroutine>
+#include <cstdlib>
+#define BARE __attribute__((no_sanitize("address")))
+struct base { virtual long f(char *p) = 0; virtual ~base() {} };
+struct other { virtual long g() { return 1; } virtual ~other() {} };
+struct both : other, base { BARE long f(char *p) override { return p[3]; } };
+struct made { long x; BARE made(char *p) : x(p[2]) {} };
+struct task {
+    struct promise_type {
+        task get_return_object() { return {}; }
+        std::suspend_never initial_suspend() { return {}; }
+        std::suspend_never final_suspend() noexcept { return {}; }
+        void return_void() {}
+        void unhandled_exception() {}
+    };
+};
+static long sink;
+BARE static task resumed(char *p) { sink += p[5]; co_return; }
+template <class function> static long run(function f, char *p) { return f(p); }
+int main() {
+    char *p = (char *)calloc(1, 8);
+    long a = run([](char *q) BARE { return (long)q[1]; }, p), b = run([&](auto q) BARE { return (long)q[2] + a; }, p);
+    both x;
+    base *y = &x;
+    made m(p);
+    resumed(p);
+    return a + b + y->f(p) + m.x != 0;
+}
+"""
 STORES_TO_SHADOW_STACK = """
 #include <immintrin.h>
 __attribute__((target("shstk"))) void store(unsigned *p) { _wrssd(1, p); }
 """
+
+
+def check_lambdas(folder, compiler):
+    """A lambda and a coroutine are functions; what GCC makes of a method or a constructor besides is not another."""
+    write(folder, lambdas_cpp=LAMBDAS)
+    for level in ("-O0", "-O2"):
+        compiler.cpp(folder, ["lambdas.cpp"], f"{folder}/lambdas", "-std=c++20", "-w", level)
+        expect(noted(f"{folder}/lambdas"), ["5 functions of lambdas.cpp (no_sanitize)"], level)
 
 
 def check_attributes(suite, folder, compiler):
@@ -377,6 +415,8 @@ def check_attributes(suite, folder, compiler):
     for linker in LINKERS:
         make(folder, compiler, f"-fuse-ld={linker}", "main.o", "some.o", "ours.o", "-o", "program")
         expect(sorted(noted(f"{folder}/program")), said, linker)
+    if compiler.cxx:
+        check_lambdas(folder, compiler)
     make(folder, compiler, "-fPIC", "-shared", "some.c", "-o", "libsome.so")
     expect(sorted(noted(f"{folder}/libsome.so")), said, "a shared object")
     make(folder, compiler, "main.o", "ours.o", "-o", "program")

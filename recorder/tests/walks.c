@@ -1,11 +1,18 @@
 /* Places of walks (stacks/walks.h): each is one thread's, also if a handler comes after the place was taken and before
    the thread has noted it, and forks or leaves by a jump. */
+#include "tests/fuzz/tables.h"
+
 #include <pthread.h>
 #include <stdio.h>
 
 #include "stacks/walks.c"
 
 _Thread_local struct own_stack own_stack = {.low = 1 << 20, .top = 2 << 20};
+
+bool stack_note_rights(uintptr_t start, size_t size, bool can_be_read)
+{
+    return can_be_read && start < own_stack.top && size > 0;
+}
 
 /* The place of this thread after more walks than it needs for one. */
 static struct walks *walk_often(void)

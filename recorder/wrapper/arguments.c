@@ -41,12 +41,43 @@ static bool is_of_c(const char *name)
     return begins_with(name, ":libm.so");
 }
 
+/* Whether a file is a runtime by its name, as GCC's or Clang's. */
+static bool is_runtime_file(const char *name)
+{
+    static const char *const names[] = {"libasan.so", "libasan.a", "libasan_preinit.o",
+                                        "liblsan.so", "liblsan.a", "liblsan_preinit.o"};
+    static const char *const fronts[] = {"libasan.so.", "liblsan.so.", "libclang_rt.asan", "libclang_rt.lsan"};
+    for (size_t i = 0; i < COUNT(names); i++)
+        if (strcmp(name, names[i]) == 0)
+            return true;
+    for (size_t i = 0; i < COUNT(fronts); i++)
+        if (begins_with(name, fronts[i]))
+            return true;
+    return false;
+}
+
+bool is_runtime_library(const char *name)
+{
+    if (name[0] == ':')
+        return is_runtime_file(name + 1);
+    return begins_with(name, "clang_rt.asan") || begins_with(name, "clang_rt.lsan") || strcmp(name, "asan") == 0
+           || strcmp(name, "lsan") == 0;
+}
+
+bool is_runtime_word(const char *word)
+{
+    return begins_with(word, "-l") ? is_runtime_library(word + strlen("-l")) : is_runtime_file(base_name(word));
+}
+
 /* A library: what GCC made with -flto is compiled when it is linked. */
 static void take_library(struct arguments *arguments, const char *name)
 {
     struct request *request = arguments->request;
     char path[2 * PATH_MAX];
     bool is_file = name[0] == ':';
+    request->names_runtime |= is_runtime_library(name);
+    if (is_runtime_library(name))
+        return;
     request->inputs.has_any = request->inputs.has_linked = true;
     request->link.has_libc |= strcmp(name, "c") == 0;
     request->link.has_libm |= strcmp(name, "m") == 0 || begins_with(name, ":libm.so");
@@ -132,6 +163,8 @@ static void take_linker_word(struct arguments *arguments, const char *word)
         arguments->request->link.is_traced = true;
     else if (begins_with(word, "-l"))
         take_library(arguments, word + strlen("-l"));
+    else if (is_runtime_word(word))
+        arguments->request->names_runtime = true;
     else if (!take_valued_linker_word(arguments, word) && !take_plain_linker_word(arguments, word) && word[0] != '-'
              && word[0] != 0 && linked_takes(word)) {
         inputs_add_file(arguments->request, word);
@@ -399,6 +432,8 @@ void arguments_take(struct arguments *arguments, const char *word)
         take_response_file(arguments, word);
     } else if (word[0] == '-' && word[1] != 0) {
         take_option(arguments, word);
+    } else if (is_runtime_word(word)) {
+        arguments->request->names_runtime = true;
     } else if (word[0] != 0) {
         inputs_add(arguments->request, arguments->language, word);
     }

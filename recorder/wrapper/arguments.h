@@ -1,7 +1,7 @@
 /* Reads the arguments of a command line, and those of its response files, as a compiler reads them. It changes none.
 
-   Called: arguments_take by asancol-cc.c, is_sanitizer by that and by compiling.c, in the one thread of the wrapper; no
-   lock. */
+   Called: arguments_take by asancol-cc.c, is_sanitizer by that and by compiling.c, is_runtime_library and
+   is_runtime_word by taken_out.c, in the one thread of the wrapper; no lock. */
 #ifndef ASANCOL_ARGUMENTS_H
 #define ASANCOL_ARGUMENTS_H
 
@@ -31,5 +31,10 @@ enum { MAX_RESPONSE_FILES = 2000, MAX_NESTED = 64 };
 void arguments_take(struct arguments *arguments, const char *word);
 /* Whether a word is for a sanitizer. */
 bool is_sanitizer(const char *word);
+/* Whether a library, by its name after -l, is AddressSanitizer's runtime or LeakSanitizer's: the recorder is there in
+   place of it. */
+bool is_runtime_library(const char *name);
+/* Whether an input, or a word for the linker, is such a library. */
+bool is_runtime_word(const char *word);
 
 #endif

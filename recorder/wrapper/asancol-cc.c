@@ -18,8 +18,8 @@
 #include "wrapper/compiling.h"
 #include "wrapper/running.h"
 #include "wrapper/say.h"
-#include "wrapper/use_after_return.h"
 #include "wrapper/self.h"
+#include "wrapper/taken_out.h"
 #include "wrapper/target.h"
 
 /* Of the compiler's arguments those that are options of it, as -m32, come before the caller's. */
@@ -84,8 +84,8 @@ int main(int count, char **argv)
     bool gets_checks = job.takes_part && (request->inputs.has_source || is_compiled_late);
     if (gets_checks || (request->foreign == NULL && request->says_use_after_return))
         job.compiler = compiler_of(job.command.items, job.command.count);
-    if (job.compiler != NULL)
-        use_after_return_take(&job);
+    if (job.compiler != NULL || (request->foreign == NULL && request->names_runtime))
+        taken_out(&job);
     if (request->inputs.has_any)
         warn_of_unrecorded(&job);
     job.object = compiling_object(&job);

@@ -32,12 +32,15 @@
 /* Clang's is the form of a process: for a kernel there are no redzones round a global whose name begins with two
    underlines, as __func__, or that names a section, and none before an array with a count of its elements. Its driver
    does not know of it, and links no runtime. What a process would have besides is taken back. An experiment gives the
-   calls after a check names of their own. It takes each word of -mllvm once: none of what callers set stands here. */
+   calls after a check names of their own. In a block it would check a pointer once, whatever the size (from 15 on), and
+   whatever another thread has freed meanwhile. It takes each word of -mllvm once: none of what callers set stands
+   here. */
 #define CLANG_CHECKS(threshold, experiment)                                                                            \
     FLAGS(COMPILED_SO, "-fno-sanitize=kernel-address", "-Xclang", "-fsanitize=address", "-Xclang",                     \
           "-fsanitize-recover=address", STACKS, "-mllvm", "-asan-mapping-offset=" SHADOW_HERE, "-Xclang",              \
           "-fsanitize-address-use-after-scope", "-mllvm", "-asan-instrumentation-with-call-threshold=" threshold,      \
-          "-mllvm", "-asan-force-experiment=" experiment, "-mllvm", "-asan-guard-against-version-mismatch=0")
+          "-mllvm", "-asan-force-experiment=" experiment, "-mllvm", "-asan-guard-against-version-mismatch=0",          \
+          "-mllvm", "-asan-opt-same-temp=0")
 
 /* Beside cold_reports.h: values needed after a call for a bad access are kept on the stack before it, and not in a
    register that the function has to save at each of its starts. The cost is that of one run in 2^14 of them. */

@@ -10,7 +10,7 @@
 
 #include "wrapper/left_out.h"
 
-/* Whether accesses to variables of functions that have returned are to be found (use_after_return.h). */
+/* Whether accesses to variables of functions that have returned are to be found (taken_out.h). */
 enum use_after_return { USE_AFTER_RETURN_NEVER, USE_AFTER_RETURN_RUNTIME, USE_AFTER_RETURN_ALWAYS, USES_AFTER_RETURN };
 /* Clang's word, and what follows GCC's `--param`. */
 #define USE_AFTER_RETURN_OF_CLANG "-fsanitize-address-use-after-return="

@@ -59,6 +59,8 @@ static void add_plugin(struct strings *line, const struct job *job)
     char *word;
     if (path == NULL && is_of_c(&job->request.inputs.sources))
         strings_add_all(line, without->items, without->count);
+    if (path == NULL && job->compiler->plugin != NULL && job->request.is_verbose)
+        warn(job->compiler->plugin, "missing for this version of GCC: intrinsics and complex numbers are not checked");
     if (path == NULL)
         return;
     if (asprintf(&word, "-fplugin=%s", path) < 0)

@@ -1,7 +1,7 @@
 /* One run of the wrapper: what it was called as, what it was asked for, and the compiler that does it.
 
    Called: no code is here. asancol-cc.c fills it in, and the others read it, except running.c, which links once more
-   with other words, and use_after_return.c, which takes words out; in the one thread of the wrapper; no lock. */
+   with other words, and taken_out.c, which takes words out; in the one thread of the wrapper; no lock. */
 #ifndef ASANCOL_JOB_H
 #define ASANCOL_JOB_H
 

@@ -18,9 +18,6 @@
 #define ARCHIVE "!<arch>\n"
 #define THIN_ARCHIVE "!<thin>\n"
 
-/* The section of the switches. In assembly their text may be cut anywhere. */
-#define SWITCHES ".GCC.command.line"
-
 /* rustc notes no switches, but who it is. What it compiles with checks asks for what prepares them. */
 #define COMMENT ".comment"
 #define RUST "rustc version "
@@ -223,7 +220,7 @@ static struct parts parts_of(struct view view)
         struct view bytes = view_of_section(view, &section);
         parts.has_code |= (section.sh_flags & SHF_EXECINSTR) != 0 && section.sh_size > 0;
         parts.has_lto |= is_called(names, &section, GCC_LTO, true);
-        if (is_called(names, &section, SWITCHES, false))
+        if (is_called(names, &section, LINKED_SWITCHES, false))
             count_marked(&parts, bytes);
         if (is_called(names, &section, COMMENT, false))
             parts.is_of_rust |= view_has_text(bytes, RUST);
@@ -269,7 +266,7 @@ static struct look look_at(struct view view)
         return (struct look){has_mark(view), is_lto};
     if (is_elf || view_begins(view, ARCHIVE))
         return (struct look){is_lto && has_mark(view), is_lto};
-    return (struct look){view_has_text(view, SWITCHES), is_lto};
+    return (struct look){view_has_text(view, LINKED_SWITCHES), is_lto};
 }
 
 /* A member of an archive comes in only if something asks for it, and then the callbacks come in by themselves: so an
@@ -292,7 +289,7 @@ void linked_look_at(struct linked *linked, const char *path)
 bool linked_is_marked_text(const char *path)
 {
     struct view view = view_map(path);
-    bool is_marked = is_bitcode(view) ? has_mark(view) : view_has_text(view, SWITCHES);
+    bool is_marked = is_bitcode(view) ? has_mark(view) : view_has_text(view, LINKED_SWITCHES);
     view_unmap(view);
     return is_marked;
 }

@@ -13,6 +13,9 @@
    way, which distinguishes them. */
 #define COMPILED_SO "-fsanitize=kernel-address"
 
+/* The section of the switches. In assembly their text may be cut anywhere. */
+#define LINKED_SWITCHES ".GCC.command.line"
+
 struct linked {
     bool has_marked; /* an object compiled this way, or one that GCC so compiles at the link */
     bool has_lto;    /* one that is compiled when it is linked */

@@ -35,9 +35,8 @@ static bool is_own[COUNT(wraps)];
 
 /* What shared objects find in a program. A pattern of names would take the linker longer than all that is ours. */
 #define SHOWN(name) "-Wl,--export-dynamic-symbol=" #name,
-static const char *const shown[] = {
-    SHOWN(pthread_create) SHOWN(thrd_create) SHOWN(longjmp) SHOWN(_longjmp) SHOWN(siglongjmp) SHOWN(__longjmp_chk)
-    SHOWN(_Unwind_RaiseException) SHOWN(_Unwind_Resume_or_Rethrow)
+static const char *const shown[] = {SHOWN(pthread_create) SHOWN(thrd_create) SHOWN(longjmp) SHOWN(_longjmp)
+                                        SHOWN(siglongjmp) SHOWN(__longjmp_chk) SHOWN(_Unwind_SetIP)
 #include "out/shown.def"
 };
 

@@ -48,21 +48,35 @@ static bool is_made_for_command(const struct made_for *made_for, const struct st
     return strstr(text, version) != NULL && strstr(text, made_for->configured) != NULL;
 }
 
-const char *plugin_of(const struct job *job)
+static bool is_made_for(const char *path, const struct job *job, struct view program)
 {
-    const struct compiler *compiler = job->compiler;
-    const char *path = compiler->plugin != NULL ? self_find_file(compiler->plugin) : NULL;
+    const char *text = job->compiler->has_text;
+    struct view plugin = view_map(path);
     struct made_for made_for;
     bool is_made = false;
-    if (path == NULL)
-        return NULL;
-    struct view plugin = view_map(path), program = view_map(job->command.items[0]);
     if (read_made_for(plugin, &made_for)) {
-        bool is_program = compiler->has_text != NULL
-                          && view_has_constant(program, compiler->has_text, strlen(compiler->has_text));
+        bool is_program = text != NULL && view_has_constant(program, text, strlen(text));
         is_made = is_program ? is_made_for_program(&made_for, program) : is_made_for_command(&made_for, &job->command);
     }
-    view_unmap(program);
     view_unmap(plugin);
-    return is_made ? path : NULL;
+    return is_made;
+}
+
+const char *plugin_of(const struct job *job)
+{
+    const char *file = job->compiler->plugin, *path = file != NULL ? self_find_file(file) : NULL;
+    if (file == NULL)
+        return NULL;
+    struct view program = view_map(job->command.items[0]);
+    if (path != NULL && !is_made_for(path, job, program))
+        path = NULL;
+    for (unsigned major = PLUGIN_OLDEST; path == NULL && major < PLUGIN_NEWEST; major++) {
+        char name[sizeof PLUGIN_FILE_OF + 16];
+        snprintf(name, sizeof name, PLUGIN_FILE_OF, major);
+        path = self_find_file(name);
+        if (path != NULL && !is_made_for(path, job, program))
+            path = NULL;
+    }
+    view_unmap(program);
+    return path;
 }

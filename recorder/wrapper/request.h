@@ -62,6 +62,7 @@ struct request {
     char *foreign;       /* a word for another sanitizer, which brings its own runtime, or another machine; or null */
     struct names kept;   /* arguments that Clang's driver passes on if it knows of a sanitizer */
     bool says_use_after_return; /* in a word of its own */
+    bool names_runtime;         /* AddressSanitizer's or LeakSanitizer's, for the link */
     enum use_after_return use_after_return;
     char *refusal; /* the last word by which the compiler puts no calls before accesses, or null */
     struct left_out left_out;

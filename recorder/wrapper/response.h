@@ -1,6 +1,6 @@
 /* Response files, which compilers take as @FILE.
 
-   Called: by arguments.c and use_after_return.c, in the one thread of the wrapper; no lock. */
+   Called: by arguments.c and taken_out.c, in the one thread of the wrapper; no lock. */
 #ifndef ASANCOL_RESPONSE_H
 #define ASANCOL_RESPONSE_H
 

@@ -248,6 +248,7 @@ static int end_link(const struct job *job, struct link *link, int status, const 
         names_add(&link->taken.own, assembly->names[i]);
     for (size_t i = 0; lacks_checks && i < sources->count; i++)
         names_add(&link->taken.own, sources->names[i]);
+    link->taken.is_for_other = job->target != NULL;
     if (status == 0)
         taken_write(&link->taken, output);
     fwrite(link->said, 1, link->length, stdout);

@@ -13,8 +13,12 @@
 #include "common/array.h"
 #include "common/text.h"
 #include "environment/link_note.h"
+#include "plugin/plugin.h"
 #include "wrapper/archive.h"
+#include "wrapper/linked.h"
 #include "wrapper/say.h"
+
+#define LACKING_PLUGIN "intrinsics and complex numbers (no plugin for GCC %u)"
 
 struct taken_archive {
     struct taken_archive *next;
@@ -253,9 +257,38 @@ static void take_said(struct taken *taken, const char *output)
     view_unmap(view);
 }
 
+/* The major version of GCC by which an object was compiled with checks and without our plugin, by its switches; or 0.
+   They begin with its name, the language and the version. */
+static unsigned version_without_plugin(const char *switches)
+{
+    unsigned major;
+    if (strstr(switches, COMPILED_SO) == NULL || strstr(switches, PLUGIN_NAME) != NULL
+        || sscanf(switches, "GNU %*s %u.", &major) != 1)
+        return 0;
+    return major;
+}
+
+/* The accesses that only a plugin would check. */
+static void take_lacking_plugin(struct taken *taken, const char *output)
+{
+    char text[sizeof LACKING_PLUGIN + 16];
+    struct view view = view_map(output), switches = view_find(view, LINKED_SWITCHES);
+    for (size_t length; switches.size != 0; switches = (struct view){switches.bytes + length, switches.size - length}) {
+        length = strnlen(switches.bytes, switches.size);
+        unsigned major = length != switches.size ? version_without_plugin(switches.bytes) : 0;
+        snprintf(text, sizeof text, LACKING_PLUGIN, major);
+        if (major != 0)
+            names_add(&taken->own, text);
+        length += length < switches.size;
+    }
+    view_unmap(view);
+}
+
 void taken_write(struct taken *taken, const char *output)
 {
     take_said(taken, output);
+    if (!taken->is_for_other)
+        take_lacking_plugin(taken, output);
     struct text *text = calloc(1, sizeof *text);
     size_t at = text != NULL ? find_note(output) : 0;
     int file = at != 0 ? open(output, O_WRONLY | O_CLOEXEC) : -1;

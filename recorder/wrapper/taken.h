@@ -19,6 +19,7 @@ struct taken {
     struct names system; /* archives of the system: it could not have compiled them */
     bool has_begun;      /* anything was taken in */
     bool has_library;    /* a shared object that is no part of the C library */
+    bool is_for_other;   /* a processor for which there is no plugin of GCC's, as RECORDER.md says */
     struct taken_archive *archives;
 };
 

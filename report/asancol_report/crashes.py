@@ -74,12 +74,11 @@ def end_text(number: int, crash: str, address: Optional[int], access: str) -> st
 
 
 def own_calls(stack: Stack) -> Stack:
-    """Returns the frames that stand for a crash: as for an access, but none of a library of the system or the recorder,
-    if a later one has a line."""
-    for at, frame in enumerate(stack):
-        if frame.line and not SYSTEM_LIBRARY.match(frame.module) and not RECORDER.search(frame.file):
-            return own_frames(stack[at:])
-    return own_frames(stack)
+    """Returns the frames that stand for a crash: as for an access, but none of a library of the system, if a later one
+    has a line, and none of the recorder, if there is a later one."""
+    others = [at for at, frame in enumerate(stack) if not RECORDER.search(frame.file)]
+    with_line = [at for at in others if stack[at].line and not SYSTEM_LIBRARY.match(stack[at].module)]
+    return own_frames(stack[next(iter([*with_line, *others]), 0):])
 
 
 def line_of_crash(stack: Stack) -> int:

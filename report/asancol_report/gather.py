@@ -22,6 +22,7 @@ from .side import (
     VARIABLE_FORGOTTEN, VARIABLE_NONE, VARIABLE_STACK,
 )
 from .sources import Sources
+from .stacks import OF_RECORDER
 from .symbols import Symbols
 from .variables import declaration_of, variables_of
 from .verdicts import Line, Verdicts
@@ -316,8 +317,11 @@ class Gatherer:
         module = place.module
         if module is None:
             return (Frame(offset=place.offset),)
-        names = module.names.get(module.elf.address(place.in_file)) if module.elf else None
+        address = module.elf.address(place.in_file) if module.elf else 0
+        names = module.names.get(address) if module.elf else None
         base = Frame(module=module.path, offset=place.offset, build=module.build)
+        if module.elf and module.elf.is_of_recorder(address) and not (names and names[0].line):
+            return (base._replace(function=names[0].function if names else "", file=OF_RECORDER),)
         if not names:
             return (base,)
         return tuple(

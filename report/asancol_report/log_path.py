@@ -5,11 +5,12 @@ from __future__ import annotations
 import copy
 import os
 import signal
+import sys
 from typing import Callable, Iterator, List, Set
 
 from .asan_text import AsanText
 from .crashes import Crash
-from .errors import Broken, reason
+from .errors import reason
 from .files import encoded
 from .findings import Finding
 from .gather import Gatherer
@@ -22,21 +23,25 @@ UNHANDLED = {signal.SIGABRT, signal.SIGILL, signal.SIGTRAP, signal.SIGSYS}
 
 
 class LogPath:
-    """The files whose names begin so. One that an earlier run has left is written anew. If they stand for
-    AddressSanitizer's own (`is_as_there`), a process that a signal of UNHANDLED ended has no file for that."""
+    """The files whose names begin so. One that an earlier run has left is written anew. One that can't be written is
+    passed to `fail`. If they stand for AddressSanitizer's own (`is_alone`), a process that a signal of UNHANDLED ended
+    has no file for that, and no other place has the reports: standard output gets those that no file takes."""
 
     def __init__(self, prefix: str, root: str, results: Results, counts: Callable[[Finding], bool],
-                 is_as_there: bool) -> None:
+                 is_alone: bool, fail: Callable[[str], None]) -> None:
         self.prefix = prefix
         self.root = root
         self.results = results
         self.counts = counts
-        self.silent = UNHANDLED if is_as_there else set()
+        self.is_alone = is_alone
+        self.silent = UNHANDLED if is_alone else set()
+        self.fail = fail
+        self.reasons: Set[str] = set()  # why files could not be written, as far as that was said
         self.begun: Set[int] = set()  # processes that have a file
         self.live: Set[int] = set()  # runs whose processes came one by one
 
     def take(self, gatherer: Gatherer) -> None:
-        """Writes what a process has brought that was just taken in. Broken, if that fails."""
+        """Writes what a process has brought that was just taken in."""
         self.live.add(gatherer.run)
         findings, processes = gatherer.came.findings, gatherer.came.processes
         gatherer.came.findings, gatherer.came.processes = [], []
@@ -45,7 +50,7 @@ class LogPath:
             self.write_crash(gatherer.run, process)
 
     def take_others(self) -> None:
-        """Writes the reports read from earlier results. Broken, if that fails."""
+        """Writes the reports read from earlier results."""
         for number, run in enumerate(self.results.runs):
             if number in self.live:
                 continue
@@ -80,4 +85,12 @@ class LogPath:
                 text = AsanText(out, Colors(False), self.root, False)
                 text.write(lines(text))
         except OSError as error:
-            raise Broken(f"{path}: {reason(error)}") from None
+            self.go_without(path, reason(error))
+            if self.is_alone:
+                text = AsanText(sys.stdout, Colors(False), self.root, False)
+                text.write(lines(text))
+
+    def go_without(self, path: str, why: str) -> None:
+        if why not in self.reasons:
+            self.fail(f"{path}: {why}{'; its reports are printed instead' * self.is_alone}")
+        self.reasons.add(why)

@@ -6,7 +6,6 @@ import os
 import signal
 import stat
 import sys
-from functools import partial
 from typing import Callable, List, Optional, TextIO, Tuple
 
 from . import options as command_line
@@ -72,13 +71,8 @@ class Report:
             return None
         from .log_path import LogPath
         self.results.has_log = True
-        return LogPath(prefix, self.root, self.results, self.counts, self.is_log_alone)
-
-    def write_log(self, write: Callable[[], None]) -> None:
-        try:
-            write()
-        except Broken as error:
-            self.fail(error)
+        fail = say if self.is_log_alone else self.fail  # nothing is lost then
+        return LogPath(prefix, self.root, self.results, self.counts, self.is_log_alone, fail)
 
     @property
     def is_log_alone(self) -> bool:
@@ -103,7 +97,7 @@ class Report:
                 self.results.add_cut(path, why)
         self.judge()
         if self.log is not None:
-            self.write_log(self.log.take_others)
+            self.log.take_others()
         self.results.unused = self.suppressions.unused()
         self.results.gone = self.baseline.gone() if self.baseline else None
         for trouble in self.symbols.troubles():
@@ -252,7 +246,7 @@ class Report:
         if process.is_unsaid and not self.is_log_alone:
             self.print_halted(gatherer.came.findings)
         if self.log is not None:
-            self.write_log(partial(self.log.take, gatherer))
+            self.log.take(gatherer)
         gatherer.came.findings.clear()
         if not self.is_live:
             return
@@ -289,7 +283,7 @@ class Report:
 
     def write(self) -> None:
         results = self.results
-        says_unchecked = results.lists_unchecked and results.unchecked_count() > 0
+        says_unchecked = results.lists_unchecked and results.has_unchecked_news()
         has_none = self.is_log_alone or not (results.counted() or results.has_crash())
         is_clean = has_none and results.is_complete() and not says_unchecked
         if self.options.has_text and not (self.options.switches["--quiet"] and is_clean):

@@ -12,6 +12,9 @@ from .leaks import at_one_place, Leaks, total
 from .sources import Sources
 from .words import signal_name
 
+# What a run lists for the options of AddressSanitizer that turned checks off begins so (common/format.h).
+CHECKS_TURNED_OFF = "checks turned off by "
+
 
 class Process(NamedTuple):
     """A recorded process."""
@@ -338,6 +341,11 @@ class Results:
 
     def unchecked_count(self) -> int:
         return len(self.unchecked()) + sum(run.unchecked_more for run in self.runs)
+
+    def has_unchecked_news(self) -> bool:
+        """Whether there is more than what the options of AddressSanitizer have turned off (`unchecked_is_news`)."""
+        told = sum(name.startswith(CHECKS_TURNED_OFF) for name in self.unchecked())
+        return self.unchecked_count() > told
 
     @property
     def run_count(self) -> int:

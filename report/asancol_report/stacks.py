@@ -10,7 +10,10 @@ from .functions import is_standard
 from .words import plural
 
 LIBRARY = re.compile(r"/lib(?:32|64|x32)?/(?:.*/)?(libc|libstdc\+\+|libc\+\+|libc\+\+abi)(?:-[\d.]+)?\.so[.\d]*\Z")
-RECORDER = re.compile(r"(?:\A|/)recorder/(?:base|calls|heap|interface|process|shadow|stacks|stream)/\w+\.c\Z")
+# A source of the recorder; or what stands for one where no line is known, as of one that is installed.
+OF_RECORDER = "<recorder>"
+RECORDER = re.compile(r"(?:\A|/)recorder/(?:base|calls|heap|interface|process|shadow|stacks|stream)/\w+\.[ch]\Z|"
+                      rf"\A{OF_RECORDER}\Z")
 # A line of source that is longer is cut, and the column stays in view.
 MAX_SHOWN = 100
 BEFORE_CARET = 60

@@ -77,14 +77,11 @@ def check_burst(suite: Suite, folder: str, program: str) -> None:
 
 
 def check_sandbox(suite: Suite, folder: str, program: str) -> None:
-    """A filter of system calls ends a process where the recorder makes a call of its own for a bug, or refuses that: it
-    is found, or it is said that something is missing."""
+    """A filter of system calls would end a process where the recorder makes a call of its own for a bug, or refuses
+    that: the bug is found by others."""
     for way in ("kill", "thread", "trap", "errno", "log", "strict"):
         ran = suite.run("--", program, "sandbox", way, ASANCOL_REPORT=REPORT)
-        if way == "log":
-            expect_ran(ran, 99, "in store_past")
-        else:
-            expect_ran(ran, 98, "2 processes", "1 INCOMPLETE")
+        expect_ran(ran, 99, "in store_past", "1 report at 1 place; 2 processes, ", absent=["INCOMPLETE"])
 
 
 def check_forbidden(suite: Suite, folder: str, program: str) -> None:

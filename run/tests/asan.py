@@ -3,6 +3,7 @@
 import glob
 import os
 import re
+import shutil
 import signal
 import subprocess
 from typing import List, Tuple
@@ -39,7 +40,8 @@ def check_statuses(suite: Suite, folder: str) -> None:
         (log,) = glob.glob(f"{folder}/{name}.*")
         with open(log, encoding="utf-8") as file:
             expect(": AddressSanitizer: heap-buffer-overflow" in file.read(), True, "the file of the process")
-    ran(99, PAST, "without effect here: log_path=/proc/new/log\n", ASAN_OPTIONS="log_path=/proc/new/log")
+    ran(99, PAST, "without effect here: log_path=/proc/new/log (No such file or directory)\n",
+        ASAN_OPTIONS="log_path=/proc/new/log")
 
 
 def check_ends(suite: Suite, folder: str) -> None:
@@ -80,6 +82,11 @@ def check_asked(suite: Suite, folder: str) -> None:
         expect_ran(ran(**{name: "verbosity=1"}), 0, f"asancol: {name}: taken: verbosity=1\n", ": complete, ")
         names = {it for it, fate, _ in table() if fate in ("RUN", "PROCESS")}
         expect(set(re.findall(r"^\t(\w+)$", ran(**{name: "help=1"}).err, re.M)), names, "the options of the help")
+    for own in "0", RUN:
+        alone = suite.run_argv([suite.program, "sound"], ASAN_OPTIONS="help=true", ASANCOL_RUN=own)
+        expect((alone.status, alone.err.count("Available flags for AddressSanitizer:\n\texitcode\n\t\t- ")), (0, 1),
+               alone.err)
+        expect([it for it in ("`", "](", ".md") if it in alone.err], [], "marks of the page")
     expect_ran(ran(ASAN_OPTIONS="verbosity=0:help=0"), 0, absent=["asancol"])
 
 
@@ -107,7 +114,8 @@ def check_leaks(suite: Suite, folder: str) -> None:
     ran(99, "Direct leak of 300 byte(s)", ASAN_OPTIONS="detect_leaks=0", LSAN_OPTIONS="detect_leaks=1")
     ran(0, "no reports; 1 process", ASAN_OPTIONS="detect_leaks=0")
     ran(99, "Direct leak of 300 byte(s)", option="--leaks=yes", ASAN_OPTIONS="detect_leaks=0")
-    ran(0, "leaks (ASANCOL_LEAKS is not 1)", before="ASAN_OPTIONS=detect_leaks=0", ASAN_OPTIONS="detect_leaks=1")
+    ran(0, "checks turned off by ASAN_OPTIONS: detect_leaks=0\n", before="ASAN_OPTIONS=detect_leaks=0",
+        ASAN_OPTIONS="detect_leaks=1")
     write_text(f"{folder}/known", "# known\nleak:^lose$\nodr_violation:x\n")
     ran(0, "no reports, 1 suppressed;", ASAN_OPTIONS="detect_leaks=1", LSAN_OPTIONS=f"suppressions={folder}/known")
     ran(0, f"LSAN_OPTIONS: without effect here: suppressions={folder}/no (not a readable file)\n",
@@ -137,7 +145,7 @@ def check_relative_rules(suite: Suite, folder: str) -> None:
 
 OF_PROGRAM = """
 const char *__asan_default_options(void) {
-    return "alloc_dealloc_mismatch=0:quarantine_size_mb=3:start_deactivated=1:symbolize=0:help=1:"
+    return "alloc_dealloc_mismatch=0:quarantine_size_mb=3:start_deactivated=1:symbolize=0:"
            "detect_leaks=DETECT"; }
 const char *__lsan_default_suppressions(void) { return "# known\\nleak:^lose$\\n"; }
 """
@@ -298,6 +306,32 @@ def check_log_path(suite: Suite, folder: str) -> None:
     expect((ran.err, ran.out.count(HALTED), ran.out.count("in store_past ")), ("", 1, 1), ran.out)
 
 
+def check_no_log(suite: Suite, folder: str) -> None:
+    """If no file can be made, that is said, with the reason, and the reports are on standard error: in a quiet run, by
+    an own run, and without a run."""
+    path = f"{folder}/{'long' * 63}"  # with the process's number it is too long a name
+    given = {"ASAN_OPTIONS": f"log_path={path}", "ASANCOL_REPORT": REPORT}
+    halts = {**given, "ASAN_OPTIONS": f"log_path={path}:halt_on_error=1"}
+    said = "File name too long; its reports are printed instead\n"
+    for argv in ["--"], ["-q", "--"], ["--live", "--"]:
+        expect_ran(suite.run(*argv, suite.program, "past", **given), 99, said, HALTED, "in store_past ")
+    expect_ran(suite.run("--", suite.program, "past", **halts), 99, said, HALTED)
+    expect_ran(suite.run_argv([suite.program, "past"], ASANCOL_RUN=RUN, **given), 99, said, HALTED)
+    expect_ran(suite.run("--", suite.program, "crashes", **given), -signal.SIGSEGV, said, "AddressSanitizer: SEGV ")
+    two = suite.run("-q", "--", "sh", "-c", f"{suite.program} past; {suite.program} past", **given)
+    expect((two.err.count(said), two.err.count(HALTED)), (1, 2), two.err)
+    expect_ran(suite.run(f"--log-path={path}", "--", suite.program, "past", ASANCOL_REPORT=REPORT), 99,
+               "File name too long\n", PAST)
+    alone = suite.run_argv([suite.program, "past"], ASANCOL_HALT="1", ASAN_OPTIONS=f"log_path={path}")
+    expect_ran(alone, -signal.SIGABRT, "asancol: the report is on standard error: ", ": File name too long\n", HALTED)
+    for option in "--html", "--json", "--sarif", "--junit":
+        expect_ran(suite.run("-q", option, "/proc/no", "--", suite.program, "past", ASANCOL_REPORT=REPORT), 99, PAST,
+                   "asancol-report: /proc/no: No such file or directory\n")
+        expect_ran(suite.run("-q", option, "/proc/no", "--", suite.program, "sound", ASANCOL_REPORT=REPORT), 98,
+                   "asancol-report: /proc/no: No such file or directory\n")
+    expect_ran(suite.run("--log-file", "/proc/no", "--", suite.program, "past"), 125, "asancol-run: /proc/no: No such ")
+
+
 def check_at_once(suite: Suite, folder: str) -> None:
     """It stands there before the command goes on for long."""
     line = f"{suite.program} past; until grep -q AddressSanitizer {folder}/e; do sleep 0.1; done; echo later >&2"
@@ -315,8 +349,9 @@ def check_functions(suite: Suite, folder: str) -> None:
     for leaks, option, text in ("1", "yes", "no reports, 1 suppressed; "), ("0", "summary", "no reports; "):
         program = make(folder, "gcc", PROGRAM + OF_PROGRAM.replace("DETECT", leaks))
         ran = suite.run(f"--leaks={option}", "--", program, ASANCOL_REPORT=REPORT)
-        expect_ran(ran, 0, text, "start_deactivated=1 (__asan_default_options)", "families and sizes of frees",
-                   absent=["symbolize", "help", "asancol: leaks:"])
+        expect_ran(ran, 0, text, "start_deactivated=1 (__asan_default_options)",
+                   "checks turned off by __asan_default_options:",
+                   absent=["symbolize", "asancol: leaks:"])
 
 
 MISMATCHES = """
@@ -342,11 +377,14 @@ def check_mismatches(suite: Suite, folder: str) -> None:
     )
     for options, there, absent in rows:
         ran = suite.run("--", f"{folder}/m", ASANCOL_REPORT=REPORT, ASAN_OPTIONS=options)
-        expect_ran(ran, 99 if there[0] != "no reports; " else 0, *there, absent=[*absent, "not checked: fam"])
+        expect_ran(ran, 99 if there[0] != "no reports; " else 0, *there, absent=[*absent, "families"])
 
 
 def check_mistakes(suite: Suite, folder: str) -> None:
-    """A command in quotes, and AddressSanitizer's runtime that is preloaded, are named."""
+    """A command in quotes, Valgrind, and AddressSanitizer's runtime that is preloaded, are named."""
+    if shutil.which("valgrind"):
+        expect_ran(suite.run("--", "valgrind", "-q", suite.program, "sound", ASANCOL_REPORT=REPORT), 98,
+                   "programs: INCOMPLETE: its addresses are refused, as by Valgrind, under which it cannot run\n")
     expect_ran(suite.run("--", f"{suite.program} sound"), 127, " sound: no such file: the command is one word")
     expect_ran(suite.run("--", f"{folder}/not there", "x"), 127, "not there: No such file or directory")
     library = call(["gcc", "-print-file-name=libasan.so"], stdout=subprocess.PIPE, text=True, check=True).stdout.strip()
@@ -378,6 +416,38 @@ def check_fates(suite: Suite, folder: str) -> None:
 # The lists in compiler-rt's sources, and the words before each option.
 LISTS = {"asan/asan_flags.inc": "ASAN_FLAG", "lsan/lsan_flags.inc": "LSAN_FLAG",
          "sanitizer_common/sanitizer_flags.inc": "COMMON_FLAG"}
+
+
+def check_turned_off(suite: Suite, folder: str) -> None:
+    """Each option that turns checks off is in one entry, which counts for --unchecked=error; a quiet run does not say
+    it. If it is overruled, or has the value with which nothing is turned off, there is none."""
+    write_text(f"{folder}/p.c", "int main(void) { return 0; }\n")
+    call([f"{TOP}/recorder/asancol-cc", "p.c", "-o", "p"], cwd=folder, check=True)
+    front = "not checked: checks turned off by ASAN_OPTIONS: "
+
+    def ran(status: int, text: str, *argv: str, **settings: str) -> None:
+        expect_ran(suite.run(*argv, "--", f"{folder}/p", ASANCOL_REPORT=REPORT, **settings), status, text)
+    rows = [(name, value) for name, fate, value in table() if fate in ("RUN", "PROCESS") and value]
+    expect(len(rows) > 20, True, "the options that turn checks off")
+    words = [f"{name}={ {'0': '1', '1': '0', '2': '1'}[value]}" for name, value in rows]
+    ran(0, f"{front}{' '.join(words)}\n", ASAN_OPTIONS=":".join(words))
+    for word in words:
+        ran(98, f"{front}{word}\n", "--unchecked=error", ASAN_OPTIONS=word)
+    ran(0, "; all complete\n", "--unchecked=error", ASAN_OPTIONS=":".join(f"{name}={value}" for name, value in rows))
+    ran(0, "; all complete\n", "--leaks=yes", ASAN_OPTIONS="detect_leaks=0:check_printf=0:check_printf=yes",
+        LSAN_OPTIONS="detect_leaks=1")
+    ran(0, "checks turned off by LSAN_OPTIONS: detect_leaks=0\n", LSAN_OPTIONS="detect_leaks=0")
+    over = {"ASANCOL_ODR": "2", "ASANCOL_MAY_RETURN_NULL": "0", "ASANCOL_USE_AFTER_RETURN": "1"}
+    options = "detect_odr_violation=0:allocator_may_return_null=1:detect_stack_use_after_return=0"
+    ran(0, "; all complete\n", ASAN_OPTIONS=options, **over)
+    ran(0, "not checked: globals defined twice (ASANCOL_ODR is not 2), requests for too much memory", ASANCOL_ODR="0",
+        ASANCOL_MAY_RETURN_NULL="1")
+    quiet = suite.run("-q", "--", f"{folder}/p", ASANCOL_REPORT=REPORT, ASAN_OPTIONS=words[0])
+    expect_ran(quiet, 0, absent=["asancol"])
+    ran(98, f"{front}{words[0]}\n", "-q", "--unchecked=error", ASAN_OPTIONS=words[0])
+    suite.run("--json", f"{folder}/r", "--", f"{folder}/p", ASANCOL_REPORT=REPORT, ASAN_OPTIONS=words[0])
+    quiet = suite.run_argv([REPORT, "-q", f"{folder}/r"])
+    expect_ran(quiet, 0, absent=["asancol"])
 
 
 def check_listed_options(suite: Suite, folder: str) -> None:
@@ -414,9 +484,9 @@ def tests(suite: Suite) -> None:
         ("named", check_named), ("asked", check_asked), ("symbolizer", check_symbolizer),
         ("leaks", check_leaks), ("functions", check_functions), ("death test", check_death_test),
         ("halts", check_halts), ("halts at once", check_at_once), ("exit at a halt", check_exit_at_halt),
-        ("log path", check_log_path),
+        ("log path", check_log_path), ("no log", check_no_log),
         ("mismatches", check_mismatches), ("mistakes", check_mistakes), ("same options", check_same_options),
-        ("relative suppressions", check_relative_rules), ("fates", check_fates),
+        ("relative suppressions", check_relative_rules), ("fates", check_fates), ("turned off", check_turned_off),
     ):
         suite.test(f"asan: {name}", run)
     if os.path.isdir(SOURCES):

@@ -4,9 +4,9 @@ import json
 import os
 import re
 import xml.etree.ElementTree as xml
-from typing import Dict, List
+from typing import Callable, Dict, List
 
-from support import CC, REPORT, Ran, Suite, expect, expect_in, expect_not_in, expect_ran
+from support import CC, REPORT, RUN, TESTS, Ran, Suite, expect, expect_in, expect_not_in, expect_ran
 from testing.programs import call
 from testing.reports import FORMS
 
@@ -185,19 +185,74 @@ int main(int count, char **argv) {
 
 
 def check_filtered(suite: Suite, folder: str, compiler: str) -> None:
-    """Where a filter refuses the recorder's calls, or ends whoever makes them, no process is called clean of leaks. Who
+    """Where a filter refuses calls of the recorder's, or ends whoever makes them, leaks are found without these. Who
     leaves at once, as in strict mode, ends as without the recorder: nobody looks for leaks then."""
     program = make(folder, compiler, FILTERED)
-    for how, status, said in ((["strict", "leaves"], 7, "ended abruptly, with status 7: seen up to there"),
-                              (["kill"], 98, "INCOMPLETE: ended in a system call of the recorder, "),
-                              (["errno"], 98, "INCOMPLETE: its leaks were not looked for, ")):
+    for how, status, said in ((["strict", "leaves"], 7, "all complete\n"),
+                              (["kill"], 99, "detected memory leaks"),
+                              (["errno"], 99, "detected memory leaks")):
         expect_ran(run_it(suite, "--leaks=yes", "--", program, *how), status, said)
-    expect_ran(run_it(suite, "--", program, "errno"), 7, "all complete\n", "leaks of a process were not looked for")
+    expect_ran(run_it(suite, "--", program, "errno"), 7, "all complete\n", "leaks: 100 bytes")
+
+
+# How a process with other threads ends, for leaving.c. Each has status 3, and the output that it has alone.
+LEAVINGS = ["watched", "ticks", "exits-in-thread", "exits-beside-pause", "exits-in-several", "exits-quickly",
+            "exits-at-once", "exits-in-handler", "allocates", "prints", "reads", "clones", "locks"]
+
+
+def ways_of_running(suite: Suite) -> List[Callable[..., Ran]]:
+    """Returns under asancol-run, with leaks as reports, and with a run of its own."""
+    return [lambda *argv: run_it(suite, "-q", "--", *argv),
+            lambda *argv: run_it(suite, "-q", "--leaks=yes", "--", *argv),
+            lambda *argv: suite.run_argv(argv, ASANCOL_REPORT=REPORT, ASANCOL_RUN=RUN)]
+
+
+def build(folder: str, compiler: str, name: str) -> str:
+    argv = [CC, "-g", "-O1", "-w", "-pthread", f"{TESTS}/{name}.c", "-o", name]
+    call(argv, cwd=folder, env={**os.environ, "ASANCOL_CC": compiler}, check=True)
+    return f"{folder}/{name}"
+
+
+def check_exits(suite: Suite, folder: str, compiler: str) -> None:
+    """At an exit no other thread comes back from the call in which it waits: it would go on, and be seen."""
+    waits, leaving = build(folder, compiler, "waits"), build(folder, compiler, "leaving")
+    for run in ways_of_running(suite):
+        for _ in range(3):
+            ran = run(waits, "at-exit")
+            expect((ran.status, ran.out, ran.err), (7, "", ""), "waits")
+        for how in LEAVINGS:
+            alone = "written at the end\nbegins\n" if how == "locks" else "begins\n" * ("-quick" not in how)
+            ran = run(leaving, how)
+            expect((ran.status, ran.out, ran.err), (3, alone if how != "exits-at-once" else "", ""), how)
+
+
+def check_waits(suite: Suite, folder: str, compiler: str) -> None:
+    """A search for leaks in the middle of the process: calls of other threads go on, and answer as alone. Only a call
+    that has sent a part comes back with it."""
+    waits = build(folder, compiler, "waits")
+    call(["gcc", "-w", "-pthread", f"{TESTS}/waits.c", "-o", "alone"], cwd=folder, check=True)
+    alone = suite.run_argv([f"{folder}/alone", "checked"])
+    for run in ways_of_running(suite)[::2]:
+        ran = run(waits, "checked")
+        expect(ran.out.replace("send_of_time: 0 0 early\n", "send_of_time: 0 0\n"), alone.out, "answers")
+
+
+def check_many_exits(suite: Suite, folder: str, compiler: str) -> None:
+    """The same, again and again: a watchdog does not fire, and the status is that of the exit."""
+    leaving = build(folder, compiler, "leaving")
+    for run in ways_of_running(suite):
+        for _ in range(20):
+            for how in ("watched", "exits-in-thread"):
+                ran = run(leaving, how)
+                expect((ran.status, ran.out, ran.err), (3, "begins\n", ""), how)
 
 
 def tests(suite: Suite) -> None:
     for compiler in ("gcc", "clang"):
         for name, check in (("forms", check_forms), ("suppressed", check_rules), ("outputs", check_outputs),
                             ("of several processes", check_several), ("if a thread does not stop", check_stuck),
-                            ("under a filter of system calls", check_filtered)):
+                            ("under a filter of system calls", check_filtered),
+                            ("nobody wakes at an exit", check_exits),
+                            ("nobody wakes at many exits", check_many_exits),
+                            ("nobody wakes at a search", check_waits)):
             suite.test(f"{compiler} leaks: {name}", check, compiler)

@@ -9,7 +9,9 @@ import time
 from typing import Any, List
 
 from lives import at_terminal
-from support import CC, REPORT, RUN, Ran, Suite, expect, expect_in, expect_not_in, expect_ran, wait_until, write_text
+from support import (
+    CC, REPORT, RUN, Ran, Suite, expect, expect_in, expect_not_in, expect_ran, leave_out, wait_until, write_text,
+)
 from testing.programs import Started, call
 
 PAST = "heap-buffer-overflow: store of 1 byte"
@@ -321,6 +323,116 @@ def check_habits(suite: Suite, folder: str) -> None:
         expect_in(run_alone(suite, *debugger, program, "quickly", "0").out, "exited with code 0143")
 
 
+# Executes a file by other names than its own: as a process to which orphans come, or not.
+NAMES = """
+import ctypes, os, sys
+is_reaper, how, program = sys.argv[1:4]
+if is_reaper == "1":
+    ctypes.CDLL(None).prctl(36, 1)
+if how == "memory":
+    kept = os.memfd_create("x", 0)
+    with open(program, "rb") as file:
+        os.write(kept, file.read())
+    os.execve(kept, ["name", "x"], os.environ)
+if how == "removed":
+    kept = os.open(program, os.O_RDONLY)
+    os.unlink(program)
+    os.execve(kept, ["-gone", "x"], os.environ)
+if how == "moved":
+    os.execve(os.open(program, os.O_RDONLY), ["relative/name", "x"], os.environ)
+if how == "linker":
+    os.execv("/lib64/ld-linux-x86-64.so.2", ["ld.so", program, "x"])
+os.execv(program, [how, "x"])
+"""
+
+NAMED = """
+#include <stdio.h>
+#include <stdlib.h>
+#include <unistd.h>
+int main(int count, char **argv) {
+    char *volatile block = malloc(8);
+    block[7 + count] = 1;
+    printf("<%s>", argv[0]);
+    return dup(0) != 3; }
+"""
+
+
+def check_names(suite: Suite, folder: str) -> None:
+    """The file itself runs, with its words, whatever they say: also where orphans come to the process."""
+    write_text(f"{folder}/n.c", NAMED)
+    write_text(f"{folder}/names.py", NAMES)
+    call([CC, "-g", "-w", "n.c", "-o", "n"], cwd=folder, check=True)
+    for is_reaper in ("0", "1"):
+        for how in ("ls", "-sh", "/nonexistent/p", "moved", "linker", "memory", "removed"):
+            program = f"{folder}/n"
+            if how == "removed":
+                program = shutil.copy(program, f"{folder}/removed")
+            name = {"moved": "relative/name", "linker": program, "memory": "name", "removed": "-gone"}.get(how, how)
+            ran = run_alone(suite, "python3", f"{folder}/names.py", is_reaper, how, program)
+            expect_ran(ran, 99, "heap-buffer-overflow: store of 1 byte", "1 process, ")
+            expect(ran.out, f"<{name}>", f"{how}, {is_reaper}")
+
+
+SHUT_OFF = """
+#define _GNU_SOURCE
+#include <linux/filter.h>
+#include <linux/seccomp.h>
+#include <sched.h>
+#include <signal.h>
+#include <stddef.h>
+#include <stdlib.h>
+#include <string.h>
+#include <sys/prctl.h>
+#include <sys/resource.h>
+#include <sys/syscall.h>
+#include <unistd.h>
+static void refuse(unsigned how) {
+    struct sock_filter filter[] = {
+        BPF_STMT(BPF_LD + BPF_W + BPF_ABS, offsetof(struct seccomp_data, nr)),
+        BPF_JUMP(BPF_JMP + BPF_JEQ + BPF_K, SYS_socket, 2, 0), BPF_JUMP(BPF_JMP + BPF_JEQ + BPF_K, SYS_connect, 1, 0),
+        BPF_STMT(BPF_RET + BPF_K, SECCOMP_RET_ALLOW), BPF_STMT(BPF_RET + BPF_K, how)};
+    struct sock_fprog program = {sizeof filter / sizeof *filter, filter};
+    if (prctl(PR_SET_NO_NEW_PRIVS, 1, 0, 0, 0) || prctl(PR_SET_SECCOMP, SECCOMP_MODE_FILTER, &program)) _exit(9); }
+int main(int count, char **argv) {
+    struct rlimit none = {3, 3};
+    volatile char used = 0;
+    char *volatile block = malloc(8);
+    free(block);
+    if (strcmp(argv[1], "error") == 0) refuse(SECCOMP_RET_ERRNO | 1);
+    if (strcmp(argv[1], "kill") == 0) refuse(SECCOMP_RET_KILL);
+    if (strcmp(argv[1], "root") == 0 && (unshare(CLONE_NEWUSER | CLONE_NEWNET) || chroot(argv[2]))) return 9;
+    if (strcmp(argv[1], "closed") == 0) for (int i = 3; i < 1100; i++) close(i);
+    if (strcmp(argv[1], "limit") == 0) {
+        for (int i = 3; i < 1100; i++) syscall(SYS_close, i);
+        setrlimit(RLIMIT_NOFILE, &none); }
+    if (strcmp(argv[1], "killed") == 0) kill(-1, SIGKILL);
+    if (count > 3) used = block[0];
+    return 3; }
+"""
+
+
+def check_shut_off(suite: Suite, folder: str) -> None:
+    """It ends with the status of its run where it could not connect any more, and with 98 where no answer can come."""
+    write_text(f"{folder}/s.c", SHUT_OFF)
+    call([CC, "-g", "-w", "s.c", "-o", "s"], cwd=folder, check=True)
+    quiet = {"ASAN_OPTIONS": "detect_leaks=0"}
+    for way in ("error", "kill", "root", "closed"):
+        ran = run_alone(suite, f"{folder}/s", way, folder, **quiet)
+        if ran.status == 9:
+            leave_out(f"a program that has shut itself off: {way}")
+            continue
+        expect_ran(ran, 3, absent=["asancol"])
+        expect_ran(run_alone(suite, f"{folder}/s", way, folder, "bad", **quiet), 99, "AddressSanitizer: heap-use-after")
+    for count in range(2):
+        ran = run_alone(suite, f"{folder}/s", "limit", folder, *["bad"] * count, **quiet)
+        expect_ran(ran, 98, "asancol: the end was not checked: ")
+    argv = ["unshare", "-pf", "--mount-proc", "sh", "-c", f"{folder}/s killed {folder} bad; exit $?"]
+    if run_alone(suite, *argv[:3], "true").status != 0:
+        leave_out("a run that is killed: no namespaces")
+    else:
+        expect_ran(run_alone(suite, *argv, **quiet), 98, "its run has ended before it, or was ended")
+
+
 def check_terminal(suite: Suite, folder: str) -> None:
     """One built with -fsanitize=address says on a terminal that nothing checks it, and nowhere else."""
     def said(program: List[str], **settings: str) -> str:
@@ -339,6 +451,7 @@ def tests(suite: Suite) -> None:
         ("static", check_static), ("linked", check_linked), ("place", check_place), ("streams", check_streams),
         ("closed", check_closed), ("ways out", check_ways_out), ("afterwards", check_afterwards),
         ("ended", check_ended), ("ended at the verdict", check_ended_at_verdict), ("daemon", check_daemon),
-        ("habits", check_habits), ("on a terminal", check_terminal),
+        ("habits", check_habits), ("names", check_names), ("shut off", check_shut_off),
+        ("on a terminal", check_terminal),
     ):
         suite.test(f"own run: {name}", run)

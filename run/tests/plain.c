@@ -11,7 +11,7 @@ void plain_spawn(const char *program);
 
 void leave_by_call(int status)
 {
-    syscall(SYS_exit_group, status);
+    __asm__ volatile("syscall" : : "a"(SYS_exit_group), "D"(status) : "rcx", "r11", "memory");
 }
 
 void leave_by_exit(int status)

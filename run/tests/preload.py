@@ -92,11 +92,11 @@ def check_module(suite: Suite, folder: str, compiler: str) -> None:
 
 
 def check_system(suite: Suite, folder: str, compiler: str) -> None:
-    """A program that only other programs of the system start is of the system, as libraries are."""
+    """A program is named even where the system has its libraries and the programs that only others start."""
     build(folder, compiler)
     line = f"mount --bind {folder} {OF_SYSTEM} && exec {RUN} --preload -- {OF_SYSTEM}/host ./module.so read"
     ran = suite.run_argv(["unshare", "-rm", "sh", "-c", line], cwd=folder)
-    expect_ran(ran, 0, "; all complete; not checked: 1 library of the system\n")
+    expect_ran(ran, 0, "; not checked: host\n")
 
 
 def check_processes(suite: Suite, folder: str, compiler: str) -> None:

@@ -5,6 +5,7 @@
 #include <stdio.h>
 #include <stdlib.h>
 #include <string.h>
+#include <sys/syscall.h>
 #include <sys/wait.h>
 #include <unistd.h>
 
@@ -74,13 +75,14 @@ static int aborts(char **argv)
 /* The recorder does not see it made. */
 static int forks_unseen(char **argv)
 {
+    long made;
     (void)argv;
-    pid_t made = _Fork();
+    __asm__ volatile("syscall" : "=a"(made) : "a"(SYS_fork) : "rcx", "r11", "memory");
     if (made == 0) {
         free((void *)block);
         _exit(0);
     }
-    waitpid(made, NULL, 0);
+    waitpid((pid_t)made, NULL, 0);
     return 0;
 }
 

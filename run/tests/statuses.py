@@ -34,7 +34,15 @@ RUNS: Dict[str, Tuple[str, int, List[str]]] = {
     "nothing-exitcode": ("--nothing-exitcode 77 -- true", 77, ["NOTHING WAS RECORDED"]),
     "nothing-exitcode 0": ("--nothing-exitcode 0 -- sh -c 'exit 4'", 4, ["NOTHING WAS RECORDED"]),
     "nothing of a failure is no test skipped": ("--nothing-exitcode 77 -- false", 98, ["NOTHING WAS RECORDED"]),
-    "nothing by a signal": ("--nothing-exitcode 77 -- sh -c 'kill -TERM $$'", 98, ["NOTHING WAS RECORDED"]),
+    "nothing by a signal": ("--nothing-exitcode 77 -- sh -c 'kill -TERM $$'", 98, [
+        "NOTHING WAS RECORDED: was a program built with asancol-cc?\n"
+    ]),
+    "nothing by a crash": ("-- sh -c 'kill -SEGV $$'", 98, [
+        "NOTHING WAS RECORDED: the command was ended by SIGSEGV before a recording began, or not built with asancol-cc"
+    ]),
+    "nothing by a program's crash": ("-- sh -c 'exit 134'", 98, [
+        "NOTHING WAS RECORDED: a program of the command was ended by SIGABRT before a recording began, or not built "
+    ]),
     "nothing of a failure, and incomplete-exitcode 0": (
         "--nothing-exitcode 77 --incomplete-exitcode 0 -- sh -c 'exit 4'", 4, ["NOTHING WAS RECORDED"]
     ),
@@ -76,7 +84,7 @@ RUNS: Dict[str, Tuple[str, int, List[str]]] = {
     "a trace elsewhere": ("-- sh -c 'ASANCOL_TRACE=/dev/null PROGRAM sound; PROGRAM sound'", 98, [
         "programs: INCOMPLETE: ASANCOL_TRACE is set for it", "1 INCOMPLETE"
     ]),
-    "an unknown fork": ("-- PROGRAM forks_unseen", 98, ["INCOMPLETE: it was not made by fork, but by _Fork"]),
+    "an unknown fork": ("-- PROGRAM forks_unseen", 98, ["INCOMPLETE: it was not made by fork, but by a call"]),
     "folder removed": ("-- sh -c 'PROGRAM sound; rm -r ${ASANCOL_HUB%/*}; PROGRAM sound'", 98, [
         "3 processes, 4 events", "(unknown): INCOMPLETE: the folder of the run was removed"
     ]),

@@ -262,6 +262,54 @@ def check_killed(suite: Suite, folder: str) -> None:
     expect_ran(ran, 99, " before main", "1 report at 1 place")
 
 
+# Executes itself, is ended before the new program has begun, and is waited for.
+ENDS_EARLY = """
+#include <signal.h>
+#include <stdlib.h>
+#include <sys/ptrace.h>
+#include <sys/resource.h>
+#include <sys/wait.h>
+#include <unistd.h>
+int main(int count, char **argv) {
+    int status;
+    siginfo_t how;
+    struct rusage used;
+    pid_t child = fork();
+    if (child == 0) {
+        ptrace(PTRACE_TRACEME, 0, NULL, NULL);
+        execl(argv[0], argv[0], "never", "begins", NULL);
+    }
+    waitpid(child, &status, 0);
+    ptrace(PTRACE_DETACH, child, NULL, (void *)atol(argv[1]));
+    switch (*argv[2]) {
+    case 's': return waitpid(child, &status, 0) != child;
+    case 'n': return waitpid(child, NULL, 0) != child;
+    case 'w': return wait(NULL) != child;
+    case '3': return wait3(NULL, 0, &used) != child;
+    case '4': return wait4(child, NULL, 0, NULL) != child;
+    case 'i': return waitid(P_PID, child, &how, WEXITED) != 0 || how.si_pid != child;
+    case 'I': return waitid(P_PID, child, NULL, WEXITED) != 0;
+    default: return 0;
+    }
+}
+"""
+
+
+NAMES = {9: "SIGKILL", 10: "SIGUSR1", 13: "SIGPIPE", 14: "SIGALRM", 15: "SIGTERM", 40: "signal 40"}
+
+
+def check_ended_early(suite: Suite, folder: str) -> None:
+    """A program that another process ends between its exec and its start has no mistake, however its parent waits for
+    it. If a fault ended it nobody knows more."""
+    build(folder, "early", ENDS_EARLY)
+    for number, way in (*((9, way) for way in "snw34iIo"), *((number, "n") for number in (15, 14, 10, 13, 40))):
+        ran = suite.run("--leaks=no", "--", "./early", str(number), way, cwd=folder)
+        expect_ran(ran, 0, f"early: it ended before its recording began, by {NAMES[number]}: seen up to there",
+                   "; all complete, 1 ended abruptly")
+    ran = suite.run("--leaks=no", "--", "./early", "11", "n", cwd=folder)
+    expect_ran(ran, 98, f"early: {NEVER}, by SIGSEGV", "; 1 INCOMPLETE")
+
+
 OVERFLOWS = """
 #include <stdlib.h>
 int main(int count, char **argv) {
@@ -561,6 +609,7 @@ def tests(suite: Suite) -> None:
     for name, is_library in (("the program", False), ("a library", True)):
         suite.test(f"unheard: in a constructor of {name}", check_constructor, is_library)
     suite.test("unheard: killed at once", check_killed)
+    suite.test("unheard: ended before its start", check_ended_early)
     suite.test("unheard: a run that is found", check_found_run)
     suite.test("unheard: of a plain parent", check_plain_parent)
     suite.test("unheard: of a recorded parent", check_recorded_parent)

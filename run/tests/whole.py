@@ -345,6 +345,27 @@ def check_bare(suite: Suite, folder: str, compiler: str) -> None:
         expect_ran(run_real(suite, "--", *hidden), 99, "the modules of a process are not known, as where /proc is not")
 
 
+USES_UP = """
+#include <stdlib.h>
+int f(int n) { char *volatile p = malloc(n % 100 + 1); int r = n ? f(n + 1) + 1 : 0; free(p); return r; }
+int main(void) { return f(1); }
+"""
+
+
+def check_folded(suite: Suite, folder: str, compiler: str) -> None:
+    """Frames of the recorder are one line, also without lines of its own, as where it is installed, and without names
+    either."""
+    with open(f"{folder}/up.c", "w", encoding="utf-8") as file:
+        file.write(USES_UP)
+    call([CC, "-g", "-O1", "up.c", "-o", "up"], cwd=folder, check=True, env={**os.environ, "ASANCOL_CC": compiler})
+    for words in ("", "--strip-debug", "--strip-all"):
+        if words:
+            call(["strip", words, "up"], cwd=folder, check=True)
+        ran = run_real(suite, "--", f"{folder}/up")
+        expect_ran(ran, -11, "since its stack is used up\n    .. ", " frames of the recorder\n    #",
+                   absent=["recorder/", "all.o", "<recorder>"])
+
+
 def check_many_removed(suite: Suite, folder: str) -> None:
     """Of many programs that are removed, with few descriptors, each is complete. Lines may be missing, with a
     word."""
@@ -626,6 +647,7 @@ def tests(suite: Suite) -> None:
         if shutil.which(compiler):
             suite.test(f"whole: removed, {compiler}", check_removed, compiler)
             suite.test(f"whole: without lines, {compiler}", check_bare, compiler)
+            suite.test(f"whole: folded, {compiler}", check_folded, compiler)
     suite.test("whole: many removed", check_many_removed)
     if suite.run_argv(["unshare", "-rn", "true"]).status == 0:
         suite.test("whole: file instead of the socket", check_file_instead)

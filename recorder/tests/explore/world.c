@@ -16,6 +16,7 @@
 #include "heap/blocks.h"
 #include "heap/heap.h"
 #include "heap/quarantine.h"
+#include "base/descriptors.h"
 #include "base/disturbance.h"
 #include "base/errors.h"
 #include "base/lock.h"
@@ -380,6 +381,16 @@ const char *output_send_first(struct output *output, uint64_t length, struct out
     (void)output, (void)length, (void)memory, (void)files, (void)count, (void)patience_ms;
     return NULL;
 }
+int descriptor_shown(int descriptor)
+{
+    return descriptor;
+}
+
+void output_make_way(struct output *output, int number)
+{
+    (void)output, (void)number;
+}
+
 const char output_closed[] = "";
 bool output_is_closed(const struct output *output)
 {

@@ -3,6 +3,7 @@
 #define UNITS (1 << 18)
 #define MOST_CLOSED 4
 #define MOST_KEPT 64
+#define SHARDS_AT_ONCE 2
 /* More than the rounds take that use no memory again. */
 #define MANY_UNITS 2200
 

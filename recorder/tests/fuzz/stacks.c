@@ -12,6 +12,8 @@
 #include "process/threads.h"
 #include "shadow/shadow.h"
 #include "stacks/own_stack.h"
+#include "stacks/unwinding.h"
+#include "stream/state.h"
 
 enum { THREADS = 4, COROUTINES = 64, STEPS = 20000, STACK_SIZE = 1 << 12, FRAMES = 1 << 10, OWN_AT = 1 << 23 };
 /* Nothing lies there but their shadow. */
@@ -30,9 +32,23 @@ static void expect(bool holds, const char *what)
 _Thread_local struct own_stack own_stack;
 uintptr_t heap_end_around(uintptr_t address) { return address; }
 uintptr_t heap_start_around(uintptr_t address) { return address; }
-void fake_frames_left(uintptr_t low, uintptr_t top) { (void)low, (void)top; }
+void fake_frames_left(uintptr_t low, uintptr_t top)
+{
+    (void)low, (void)top;
+}
+void init_order_ends(void) {}
 void fake_context_begins(uintptr_t low, uintptr_t top) { (void)low, (void)top; }
 bool recorder_is_own_process(void) { return true; }
+union stream_page stream_page __attribute__((aligned(MOST_PAGE)));
+bool stack_has_grown(uintptr_t frame)
+{
+    return (void)frame, false;
+}
+bool unwind_to(uintptr_t frame, uintptr_t target, struct frames_between *found)
+{
+    *found = (struct frames_between){.pieces = {{frame, frame}}, .count = 1, .end = target};
+    return false;
+}
 void shadow_clear(uint64_t address, uint64_t size)
 {
     memset((void *)shadow_of(address), 0, (size + GRANULE - 1) / GRANULE);

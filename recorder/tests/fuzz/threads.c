@@ -18,6 +18,7 @@
 #include "environment/hub_word.h"
 #include "stream/ending.h"
 #include "stream/faults.h"
+#include "stream/findings.h"
 #include "stream/keeping.h"
 #include "stream/opening.h"
 #include "stream/record.h"
@@ -74,6 +75,10 @@ void side_note_snapshot(uint64_t events) { (void)events; }
 void side_note_closed_off(void) {}
 void side_note_left_good(void) {}
 void side_note_finding_lost(void) {}
+void finding_note_call(const struct wrong_call *wrong)
+{
+    (void)wrong;
+}
 void side_note_skipped(uint64_t what) { (void)what; }
 void side_note_stated(void) {}
 uint64_t side_length(void) { return 0; }

@@ -79,6 +79,10 @@ static bool is_in_main(uintptr_t instruction)
 /* What the other parts of the recorder would do. */
 
 _Thread_local struct own_stack own_stack;
+bool stack_has_grown(uintptr_t frame)
+{
+    return (void)frame, false;
+}
 bool memory_is_there(struct known_page *known, uintptr_t address, size_t size)
 {
     uintptr_t end = (uintptr_t)(code + sizeof code);

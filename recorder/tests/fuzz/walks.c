@@ -29,6 +29,10 @@ static void expect(bool holds, const char *what)
 /* What the other parts of the recorder would do. */
 
 _Thread_local struct own_stack own_stack;
+bool stack_has_grown(uintptr_t frame)
+{
+    return (void)frame, false;
+}
 bool is_in_own_file(uint64_t start, uint64_t size)
 {
     (void)start, (void)size;

@@ -1,13 +1,12 @@
 /* A hash table of the files that have been initialised. The loader's lock, or the start of the program, lets one thread
    at a time initialise, unless a thread of a constructor opens a library before main. A dlopen or an exit of another
    thread comes without a lock, and only shows globals. So nothing is guarded here. */
-#include "interface/init_order.h"
+#include "process/init_order.h"
 
 #include <stdatomic.h>
 #include <stdbool.h>
 
-#include "process/process.h"
-#include "process/threads.h"
+#include "base/tables.h"
 #include "environment/settings.h"
 #include "shadow/globals.h"
 #include "shadow/shadow.h"
@@ -18,7 +17,8 @@ enum { STRICT = 2 };
 /* The files that have been initialised, by the address of their text; there are no more once the table is full. A
    lookup begins at a hash of it. */
 enum { MOST_FILES = 1 << 14 };
-static _Atomic uintptr_t files[MOST_FILES];
+static _Atomic uintptr_t *const files = TABLE(_Atomic uintptr_t, files_begun);
+TABLE_HAS_ROOM(files_begun, MOST_FILES * sizeof *files);
 static _Atomic uint32_t count;
 
 static _Atomic uintptr_t *place_of(uintptr_t file)
@@ -49,31 +49,19 @@ static void show(const struct global *global, void *unused)
     shadow_poison(global->start + global->size, global->size_with_redzone - global->size, SHADE_GLOBAL);
 }
 
-/* A library was opened, whose files use the program's, or a thread started: either ends the strict order. */
+/* A library is opened, whose files use the program's, or a thread is created: either ends the strict order. */
 static _Atomic bool is_over;
 
 static int wanted(void)
 {
-    int level = is_on() ? recorder_settings()->init_order : 0;
+    int level = is_on() ? plan.settings->init_order : 0;
     return level == STRICT && is_over ? 0 : level;
-}
-
-/* A static program does not say when its first thread is created. */
-static bool has_threads(void)
-{
-#ifdef IS_STATIC
-    return false;
-#else
-    return atomic_load(&threads_started);
-#endif
 }
 
 void init_order_before(const char *module)
 {
-    if (wanted() == STRICT && (module == NULL || has_threads())) {
-        globals_each(show, NULL);
-        is_over = true;
-    }
+    if (wanted() == STRICT && module == NULL)
+        init_order_ends();
     if (module == NULL || wanted() == 0)
         return;
     _Atomic uintptr_t *place = place_of((uintptr_t)module);
@@ -88,4 +76,11 @@ void init_order_after(void)
 {
     if (wanted() != 0)
         globals_each(show, NULL);
+}
+
+void init_order_ends(void)
+{
+    if (wanted() == STRICT)
+        globals_each(show, NULL);
+    is_over = true;
 }

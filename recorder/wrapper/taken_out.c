@@ -1,6 +1,7 @@
-/* One pass over the arguments copies all but these words; response files with such a word are rewritten. */
+/* One pass over the arguments copies all but these words; response files with such a word are rewritten. Words for the
+   linker that are joined by commas are written anew without it. */
 #define _GNU_SOURCE
-#include "wrapper/use_after_return.h"
+#include "wrapper/taken_out.h"
 
 #include <errno.h>
 #include <stdio.h>
@@ -16,8 +17,6 @@
 #include "wrapper/job.h"
 #include "wrapper/response.h"
 #include "wrapper/say.h"
-
-#define PARAMETER "--param"
 
 /* GCC has what Clang calls `runtime`. */
 static const struct value {
@@ -40,10 +39,21 @@ static enum use_after_return meaning_of(const char *word)
     fail(word, begins_with(word, USE_AFTER_RETURN_OF_CLANG) ? "it takes never, runtime or always" : "it takes 0 or 1");
 }
 
-/* Words before the value of which they are the front: it may be one of these. */
+/* Words before a value, which may be one of these, if it begins so or names a runtime; or the value is a file's name
+   that is none of a link. */
 static const struct front_word {
     const char *word, *value;
-} fronts[] = {{"--param", USE_AFTER_RETURN_OF_GCC}, {"-Xclang", USE_AFTER_RETURN_OF_CLANG}};
+    bool (*is_runtime)(const char *value);
+} fronts[] = {
+    {"--param", USE_AFTER_RETURN_OF_GCC, NULL},
+    {"-Xclang", USE_AFTER_RETURN_OF_CLANG, NULL},
+    {"-l", NULL, is_runtime_library},
+    {"-Xlinker", NULL, is_runtime_word},
+    {"-o", NULL, NULL},
+    {"-MF", NULL, NULL},
+    {"-MT", NULL, NULL},
+    {"-MQ", NULL, NULL},
+};
 
 /* A list of arguments that is gone over. */
 struct pass {
@@ -62,18 +72,51 @@ static const struct front_word *front_word(const char *word)
     return NULL;
 }
 
-/* Takes a word if it says something of it. */
-static bool takes(struct pass *pass, const char *word)
+static bool says_use_after_return(struct pass *pass, const char *word)
 {
     static const char joined[] = "--param=" USE_AFTER_RETURN_OF_GCC;
+    const char *value = pass->front != NULL ? pass->front->value : USE_AFTER_RETURN_OF_CLANG;
     if (pass->front == NULL && begins_with(word, joined))
         word += strlen("--param=");
-    else if (!begins_with(word, pass->front != NULL ? pass->front->value : USE_AFTER_RETURN_OF_CLANG))
+    else if (value == NULL || !begins_with(word, value))
         return false;
     pass->last = meaning_of(word);
+    return true;
+}
+
+static bool links_runtime(const struct pass *pass, const char *word)
+{
+    if (pass->front == NULL)
+        return is_runtime_word(word);
+    return pass->front->is_runtime != NULL && pass->front->is_runtime(word);
+}
+
+/* Takes a word if it is one of these. */
+static bool takes(struct pass *pass, const char *word)
+{
+    if (!says_use_after_return(pass, word) && !links_runtime(pass, word))
+        return false;
     pass->has_any = true;
     pass->front = NULL;
     return true;
+}
+
+/* Words for the linker, without those that link a runtime. */
+static const char *without_runtimes(struct pass *pass, const char *word)
+{
+    static const char front[] = "-Wl";
+    if (pass->front != NULL || !begins_with(word, "-Wl,"))
+        return word;
+    char *copy = must(strdup(word + strlen("-Wl,"))), *rest = copy, *kept = must(malloc(strlen(word) + 1)), *one;
+    strcpy(kept, front);
+    while ((one = strsep(&rest, ",")) != NULL) {
+        if (is_runtime_word(one))
+            pass->has_any = true;
+        else
+            strcat(strcat(kept, ","), one);
+    }
+    free(copy);
+    return strcmp(kept, front) != 0 ? kept : NULL;
 }
 
 static bool is_response_file(const char *word)
@@ -82,11 +125,14 @@ static bool is_response_file(const char *word)
     return word[0] == '@' && stat(word + 1, &seen) == 0;
 }
 
-static void keep_front(struct pass *pass)
+/* The value after it is no front, even if it looks like one. */
+static bool keep_front(struct pass *pass)
 {
-    if (pass->front != NULL)
+    bool has_front = pass->front != NULL;
+    if (has_front)
         strings_add(&pass->kept, pass->front->word);
     pass->front = NULL;
+    return has_front;
 }
 
 /* Takes a word of a response file. */
@@ -95,7 +141,10 @@ static void take(void *to, const char *word)
     struct pass *pass = to;
     if (takes(pass, word))
         return;
-    keep_front(pass);
+    if (keep_front(pass)) {
+        strings_add(&pass->kept, must(strdup(word)));
+        return;
+    }
     if (is_response_file(word) && pass->nested < MAX_NESTED && pass->response_files < MAX_RESPONSE_FILES) {
         pass->response_files++;
         pass->nested++;
@@ -103,8 +152,9 @@ static void take(void *to, const char *word)
         pass->nested--;
         return;
     }
-    pass->front = front_word(word);
-    if (pass->front == NULL)
+    word = without_runtimes(pass, word);
+    pass->front = word != NULL ? front_word(word) : NULL;
+    if (pass->front == NULL && word != NULL)
         strings_add(&pass->kept, must(strdup(word)));
 }
 
@@ -157,7 +207,7 @@ static struct strings taken_from(const char *const *argv, enum use_after_return 
     return pass.kept;
 }
 
-void use_after_return_take(struct job *job)
+void taken_out(struct job *job)
 {
     static char *nothing[] = {NULL};
     enum use_after_return last = USE_AFTER_RETURN_NEVER;

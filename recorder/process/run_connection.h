@@ -1,0 +1,23 @@
+/* The connection of a program to the run that it has started (own_run.h), over which it asks at its end with which
+   status it is to end (root.h). It is kept from the start: later the process may have shut itself off. If it has closed
+   that, it connects again.
+
+   Called: run_connection_begin and run_connection_forget by process.c, at the start and in a forked child, in the only
+   thread; run_connection_ask and run_connection_was_made by root.c, once, in the thread that ends the process, also in
+   a handler. Lock: none is taken; who asks may have the allocator's. */
+#ifndef ASANCOL_RUN_CONNECTION_H
+#define ASANCOL_RUN_CONNECTION_H
+
+#include <stdbool.h>
+#include <stddef.h>
+
+/* Connects to the run that listens beside this hub. */
+void run_connection_begin(const char *hub);
+/* A child is not the program: it gives the connection up. */
+void run_connection_forget(void);
+/* Sends a request, and waits for all of the answer. Answers its length, or an error below zero. */
+long run_connection_ask(const char *hub, const char *request, char *answer, size_t room);
+/* Whether the run knows of the program: there was a connection at the start. */
+bool run_connection_was_made(void);
+
+#endif
