@@ -187,12 +187,12 @@ const struct filter *filters_copy(bool is_strict, const void *program)
     size_t bytes = given.len * sizeof *given.filter;
     long made = system_mmap(NULL, sizeof(struct filter) + bytes, PROT_READ | PROT_WRITE, MAP_PRIVATE | MAP_ANONYMOUS,
                             -1, 0);
-    if (made < 0)
+    if (made <= 0)
         return NULL;
     struct filter *copy = (struct filter *)made;
     copy->before = own;
     copy->count = given.len;
-    if (read_given(given.filter, copy->code, bytes))
+    if (is_strict || read_given(given.filter, copy->code, bytes))
         return copy;
     system_munmap(copy, sizeof *copy + bytes);
     return NULL;
