@@ -33,6 +33,13 @@ void halt_on_death(void (*callback)(void))
     atomic_store(&death_callback, callback);
 }
 
+void halt_call_back(void)
+{
+    void (*callback)(void) = atomic_load(&death_callback);
+    if (callback != NULL)
+        callback();
+}
+
 bool halt_is_first_crash(void)
 {
     return !atomic_exchange(&is_crashing, true);
@@ -168,9 +175,7 @@ void halt_at(enum code code, unsigned width, uint64_t address, uintptr_t caller,
         above.tell(&(struct told){.code = code, .caller = caller, .address = address, .call = whole->call});
     else if (is_telling())
         record_tell(code, width, address, caller, whole);
-    void (*callback)(void) = atomic_load(&death_callback);
     halt_is_first_crash();
-    if (callback != NULL)
-        callback();
+    halt_call_back();
     end_process();
 }

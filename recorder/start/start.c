@@ -29,6 +29,7 @@
 #include "shadow/mapping.h"
 #include "stacks/own_stack.h"
 #include "stacks/thread_notes.h"
+#include "start/undefined.h"
 #include "stream/ending.h"
 #include "stream/side.h"
 #include "stream/state.h"
@@ -175,6 +176,8 @@ void asancol_start(void)
     if (stream_state() != STATE_OFF)
         signals_handle();
     undisturbed_end(&before);
+    if (!recorder_is_absent())
+        undefined_watch();
 }
 
 /* The C library may not be ready; and in the allocator the start would record a block that its malloc then records

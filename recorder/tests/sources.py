@@ -43,6 +43,7 @@ BESIDES = {
                           "pthread_key_create", "pthread_setspecific", "_dl_get_tls_static_info"},
     "process/unchecked.o": {"dlerror", "dlsym"},
     "start/start.o": {"__cxa_atexit", "__cxa_at_quick_exit", "_IO_flush_all", "exit", "fcloseall", "on_exit"},
+    "start/undefined.o": {"_ZN11__sanitizer14AddDieCallbackEPFvvE"},
 }
 # The checks of calls: each calls the function that the program has called, in a handler too where that may be.
 CHECKS_OF_CALLS = "calls/"

@@ -29,7 +29,8 @@ RECORD = ["__libc_stack_end", "__start_asancol_stubs", "__stop_asancol_stubs"]
 # Where the recorder's own code begins and ends, as the linker says it.
 OWN_CODE = [f"__{end}_asancol_{part}_text" for end in ("start", "stop") for part in ("helper", "own")]
 # What a program may have: a fuzzer's function, UBSan's, and what its link asks for by a flag or an option.
-MAY_BE = ["LLVMFuzzerTestOneInput", "__local_ubsan_preinit", "asancol_by_flag", "asancol_by_option"]
+MAY_BE = ["LLVMFuzzerTestOneInput", "__local_ubsan_preinit", "_ZN11__sanitizer14AddDieCallbackEPFvvE",
+          "asancol_by_flag", "asancol_by_option"]
 ARCHIVES: Dict[str, List[str]] = {"record": RECORD + OWN_CODE + MAY_BE, "static": STATIC + OWN_CODE + MAY_BE,
                                   "shared": SHARED}
 

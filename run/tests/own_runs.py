@@ -10,7 +10,8 @@ from typing import Any, List
 
 from lives import at_terminal
 from support import (
-    CC, REPORT, RUN, Ran, Suite, expect, expect_in, expect_not_in, expect_ran, leave_out, wait_until, write_text,
+    CC, REPORT, RUN, Ran, Suite, compilers_there, expect, expect_in, expect_not_in, expect_ran, leave_out, wait_until,
+    write_text,
 )
 from testing.programs import Started, call
 
@@ -433,6 +434,47 @@ def check_shut_off(suite: Suite, folder: str) -> None:
         expect_ran(run_alone(suite, *argv, **quiet), 98, "its run has ended before it, or was ended")
 
 
+UNDEFINED = """
+#include <pthread.h>
+#include <stdlib.h>
+#include <unistd.h>
+#include <sanitizer/common_interface_defs.h>
+static void on_death(void) { write(1, "death\\n", 6); }
+static void *waits(void *unused) { for (;;) pause(); return unused; }
+int main(int count, char **argv) {
+    pthread_t thread;
+    volatile int most = 2147483647;
+    char *volatile block = malloc(8);
+    __sanitizer_set_death_callback(on_death);
+    if (count > 2) pthread_create(&thread, NULL, waits, NULL);
+    if (count > 1) block[8] = 1;
+    most += count;
+    return argv == NULL; }
+"""
+
+
+def check_undefined(suite: Suite, folder: str) -> None:
+    """One that UndefinedBehaviorSanitizer ends by a call of its own ends with the run's status, after its reports. What
+    it would end with otherwise stays, and the program's callback is called, as by Clang's runtime of both."""
+    write_text(f"{folder}/u.c", UNDEFINED)
+    error = "runtime error: signed integer overflow"
+    for compiler in compilers_there():
+        argv = [CC, "-g", "-w", "-pthread", "-fsanitize=address,undefined", "-fno-sanitize-recover", "u.c", "-o", "u"]
+        if call(argv, cwd=folder, capture_output=True, env={**os.environ, "ASANCOL_CC": compiler}).returncode != 0:
+            leave_out(f"UndefinedBehaviorSanitizer of {compiler} is not there")
+            continue
+        program = f"{folder}/u"
+        for words in (["bad"], ["bad", "in threads"]):
+            ran = run_alone(suite, program, *words)
+            expect_ran(ran, 99, error, "AddressSanitizer: heap-buffer-overflow", " 1 process", "all complete")
+            expect((ran.out, ran.err.index(error) < ran.err.index("heap-buffer")), ("death\n", True), ran.err)
+            expect_ran(suite.run("--", program, *words, ASANCOL_REPORT=REPORT), 99, PAST, "all complete")
+        for options, status in (("", 1), ("exitcode=42", 42), ("abort_on_error=1", -signal.SIGABRT)):
+            expect_ran(run_alone(suite, program, UBSAN_OPTIONS=options), status, error)
+            expect_ran(run_alone(suite, program, "bad", UBSAN_OPTIONS=options), 99, error, "heap-buffer-over")
+        expect_ran(run_alone(suite, program), 1, error, absent=["asancol"])
+
+
 def check_terminal(suite: Suite, folder: str) -> None:
     """One built with -fsanitize=address says on a terminal that nothing checks it, and nowhere else."""
     def said(program: List[str], **settings: str) -> str:
@@ -452,6 +494,7 @@ def tests(suite: Suite) -> None:
         ("closed", check_closed), ("ways out", check_ways_out), ("afterwards", check_afterwards),
         ("ended", check_ended), ("ended at the verdict", check_ended_at_verdict), ("daemon", check_daemon),
         ("habits", check_habits), ("names", check_names), ("shut off", check_shut_off),
+        ("ended by UndefinedBehaviorSanitizer", check_undefined),
         ("on a terminal", check_terminal),
     ):
         suite.test(f"own run: {name}", run)
