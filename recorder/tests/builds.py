@@ -174,7 +174,8 @@ LOOKS_FOR_INIT = "char __asan_init();\nint main(void) { return __asan_init(); }\
 
 
 def check_runtimes(suite, folder, compiler):
-    """AddressSanitizer's runtime, in each form in which a link names it, is left out, whether it is there or not."""
+    """AddressSanitizer's runtime, in each form in which a link names it, is left out, whether it is there or not. That
+    of a sanitizer that can't be beside it is refused, or makes a program in which nothing is recorded."""
     made = Builder(suite, folder, compiler)
     made.objects()
     both = ("main.o", "helper.o")
@@ -193,6 +194,16 @@ def check_runtimes(suite, folder, compiler):
     write(folder, look_c=LOOKS_FOR_INIT)
     made.cc("-w", "look.c", "-lasan", "-o", "look")
     expect(run(["./look"], folder).returncode, 0, "what configure does")
+    foreign = "remove it: nothing is recorded with this option"
+    write(folder, empty_c="int main(void) { return 0; }\n")
+    for words in (["-ltsan"], ["-l", "tsan"], ["-Wl,-ltsan"], ["-l:libtsan.so.2"], ["./libtsan.a"],
+                  ["-lclang_rt.tsan-x86_64"], ["-lhwasan"]):
+        named = "-ltsan" if words == ["-l", "tsan"] else words[-1].replace("-Wl,", "")
+        said = run([CC, "empty.c", *words, "-o", "empty"], folder, ASANCOL_CC=compiler.name).stderr.decode()
+        expect(f"asancol-cc: warning: {named}: {foreign}" in said.splitlines(), True, f"{words}: {said}")
+        ran = run([CC, *both, *words, "-o", "program"], folder, ASANCOL_CC=compiler.name)
+        no_place = "remove it: code compiled by asancol-cc can't be in a program with another sanitizer"
+        expect((ran.returncode, ran.stderr.decode()), (1, f"asancol-cc: error: {named}: {no_place}\n"), f"{words}")
     # A file may be made that has such a name.
     made.cc("-fPIC", "-shared", "helper.c", "-DVALUE=1", "-o", "libasan.so", "-Wl,-soname,libasan.so")
     made.cc("-c", "-MD", "-MF", "libasan.a", "-MT", "libasan.so", "helper.c", "-DVALUE=1")
@@ -428,6 +439,8 @@ def check_own_flag(suite, folder, compiler):
     for flags in (["@flags"], ["-fsanitize=address,undefined"]):
         made.cc(*flags, "-S", "wide.c")
         expect("__ubsan_handle_shift_out_of_bounds" in made.text_of("wide.s"), True, f"{flags}")
+    if compiler.name == "gcc":
+        made.link("-fsanitize=address,undefined", "-static-libubsan", "-DVALUE=1", "main.c", "helper.c")
     refused = "-fno-sanitize=address: code compiled with this option is not recorded"
     made.cc("-fsanitize=address", "-fno-sanitize=address", "-DVALUE=1", "-c", "helper.c", warning=refused)
 

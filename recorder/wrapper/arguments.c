@@ -69,6 +69,38 @@ bool is_runtime_word(const char *word)
     return begins_with(word, "-l") ? is_runtime_library(word + strlen("-l")) : is_runtime_file(base_name(word));
 }
 
+/* Whether a library is the runtime of a sanitizer that no program has beside ours: by its name after -l, or by that of
+   its file, without what both begin with. */
+static bool is_foreign_runtime(const char *name, bool is_file)
+{
+    static const char *const gcc[] = {"tsan", "hwasan"};
+    static const char *const clang[] = {"clang_rt.tsan", "clang_rt.hwasan", "clang_rt.msan", "clang_rt.dfsan"};
+    for (size_t i = 0; i < COUNT(clang); i++)
+        if (begins_with(name, clang[i]))
+            return true;
+    for (size_t i = 0; i < COUNT(gcc); i++) {
+        const char *rest = name + strlen(gcc[i]);
+        if (begins_with(name, gcc[i]) && (is_file ? begins_with(rest, ".so") || strcmp(rest, ".a") == 0 : *rest == 0))
+            return true;
+    }
+    return false;
+}
+
+/* Takes an input, or a word for the linker, if it is such a library. */
+static bool take_foreign_runtime(struct arguments *arguments, const char *word)
+{
+    bool is_file = word[0] != '-' || begins_with(word, "-l:");
+    const char *name = word[0] != '-' ? base_name(word) : word + strlen(is_file ? "-l:" : "-l");
+    if (word[0] == '-' && !begins_with(word, "-l"))
+        return false;
+    if (is_file && !begins_with(name, "lib"))
+        return false;
+    if (!is_foreign_runtime(is_file ? name + strlen("lib") : name, is_file))
+        return false;
+    arguments->request->foreign = must(strdup(word));
+    return true;
+}
+
 /* A library: what GCC made with -flto is compiled when it is linked. */
 static void take_library(struct arguments *arguments, const char *name)
 {
@@ -78,6 +110,7 @@ static void take_library(struct arguments *arguments, const char *name)
     request->names_runtime |= is_runtime_library(name);
     if (is_runtime_library(name))
         return;
+    take_foreign_runtime(arguments, joined("-l", name));
     request->inputs.has_any = request->inputs.has_linked = true;
     request->link.has_libc |= strcmp(name, "c") == 0;
     request->link.has_libm |= strcmp(name, "m") == 0 || begins_with(name, ":libm.so");
@@ -165,6 +198,8 @@ static void take_linker_word(struct arguments *arguments, const char *word)
         take_library(arguments, word + strlen("-l"));
     else if (is_runtime_word(word))
         arguments->request->names_runtime = true;
+    else if (take_foreign_runtime(arguments, word))
+        return;
     else if (!take_valued_linker_word(arguments, word) && !take_plain_linker_word(arguments, word) && word[0] != '-'
              && word[0] != 0 && linked_takes(word)) {
         inputs_add_file(arguments->request, word);
@@ -334,6 +369,7 @@ static const struct option {
     SETS(link.is_static, "--static"), SETS(link.is_bare, "-nostdlib"), SETS(link.is_bare, "-nodefaultlibs"),
     SETS(link.is_bare, "-nolibc"), SETS(link.is_bare, "-ffreestanding"), SETS(link.is_stripped, "-s"),
     SETS(link.is_traced, "-t"), SETS(link.has_cxx_inside, "-static-libstdc++"),
+    SETS(link.has_undefined_inside, "-static-libubsan"),
     SETS(is_libcxx, "-stdlib=libc++"), SETS(is_libcxx, "--stdlib=libc++"), SETS(is_without_cxx, "-nostdinc++"),
 #undef SETS
 #define TAKES(word, form, take) {word, form, take, 0}
@@ -435,6 +471,7 @@ void arguments_take(struct arguments *arguments, const char *word)
     } else if (is_runtime_word(word)) {
         arguments->request->names_runtime = true;
     } else if (word[0] != 0) {
+        take_foreign_runtime(arguments, word);
         inputs_add(arguments->request, arguments->language, word);
     }
 }

@@ -13,6 +13,7 @@
 #include <sys/auxv.h>
 
 #include "common/standard.h"
+#include "common/text.h"
 #include "wrapper/arguments.h"
 #include "wrapper/command.h"
 #include "wrapper/compiling.h"
@@ -36,6 +37,7 @@ static void read_arguments(struct job *job)
 }
 
 #define NOTHING "nothing is recorded with this option"
+#define NO_PLACE "remove it: code compiled by asancol-cc can't be in a program with another sanitizer"
 
 /* Warns of what will not be recorded: code that is compiled here or at the link, or for another sanitizer all of the
    run, whatever it does. If something is compiled, the compiler was asked which it is: null means that it is neither
@@ -48,8 +50,10 @@ static void warn_of_unrecorded(const struct job *job)
     bool compiles = inputs->has_compiled || (job->links && inputs->linked.has_lto);
     if (foreign == NULL && inputs->has_compiled && job->compiler == NULL)
         warn(job->command.items[0], UNKNOWN_COMPILER);
+    if (foreign != NULL && !begins_with(foreign, "-m") && inputs->linked.has_marked && job->links)
+        fail(foreign, NO_PLACE);
     if (foreign != NULL)
-        warn(foreign, is_sanitizer(foreign) ? "remove it: " NOTHING : NOTHING);
+        warn(foreign, begins_with(foreign, "-m") ? NOTHING : "remove it: " NOTHING);
     else if (!compiles)
         return;
     else if (request->refusal != NULL)

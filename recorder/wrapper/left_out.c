@@ -14,6 +14,7 @@
 /* What of a word leaves the check out. */
 enum sign {
     SIGN_OFF,  /* a value that turns it off, after a sign of equality */
+    SIGN_ON,   /* another value than those, or none: it has the compiler leave the check out */
     SIGN_ANY,  /* any value */
     SIGN_WORD, /* that it is there; and with `again` it is not */
     SIGN_FRONT /* that it begins so */
@@ -44,6 +45,7 @@ static const struct check {
     {CHECKS_OF_CLANG, CHECK_LLVM, SIGN_OFF, "asan-instrument-byval", NULL},
     {CHECKS_OF_CLANG, CHECK_LLVM, SIGN_OFF, "asan-instrument-dynamic-allocas", NULL},
     {CHECKS_OF_CLANG, CHECK_LLVM, SIGN_OFF, "asan-redzone-byval-args", NULL},
+    {CHECKS_OF_CLANG, CHECK_LLVM, SIGN_ON, "asan-opt-same-temp", NULL},
     {CHECKS_OF_CLANG, CHECK_LLVM, SIGN_ANY, "asan-max-ins-per-bb", NULL},
     {CHECKS_OF_CLANG, CHECK_LLVM, SIGN_ANY, "asan-debug-max", NULL},
     {CHECKS_OF_CLANG, CHECK_LLVM, SIGN_WORD, "-disable-llvm-passes", NULL},
@@ -67,12 +69,14 @@ static bool is_off(const char *value)
     return false;
 }
 
-/* The value that a word gives to a check, or null. LLVM's words begin with one dash or two. */
+/* The value that a word gives to a check, or null. LLVM's words begin with one dash or two, and need none. */
 static const char *value_of(const struct check *check, const char *word)
 {
     size_t length = strlen(check->name);
     if (check->place == CHECK_LLVM)
         word += begins_with(word, "--") ? 2 : begins_with(word, "-");
+    if (check->sign == SIGN_ON && strcmp(word, check->name) == 0)
+        return "";
     return begins_with(word, check->name) && word[length] == '=' ? word + length + 1 : NULL;
 }
 
@@ -83,6 +87,9 @@ static bool is_of(const struct check *check, const char *word, bool *leaves_out)
     switch (check->sign) {
     case SIGN_OFF:
         *leaves_out = value != NULL && is_off(value);
+        return value != NULL;
+    case SIGN_ON:
+        *leaves_out = value != NULL && !is_off(value);
         return value != NULL;
     case SIGN_ANY:
         *leaves_out = true;

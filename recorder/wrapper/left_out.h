@@ -13,7 +13,7 @@ enum check_place { CHECK_PARAMETER, CHECK_LLVM, CHECK_OPTION };
 /* What it means something to. To the other one it is nothing, or an error. */
 enum check_compiler { CHECKS_OF_GCC, CHECKS_OF_CLANG };
 
-enum { CHECKS_LEFT_OUT = 23 };
+enum { CHECKS_LEFT_OUT = 24 };
 
 /* The words by which each of the checks is left out, or null. Zeros before the first word. */
 struct left_out {

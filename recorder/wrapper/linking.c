@@ -170,6 +170,8 @@ static void add_to_program(struct strings *line, const struct job *job)
         strings_add(line, "-Wl,--undefined=" EVERY_CALL);
         strings_add_all(line, shown, COUNT(shown));
     }
+    if (has_start(link) && link->has_undefined_inside)
+        strings_add(line, "-Wl,--undefined=__wrap_dlsym"); /* which it calls behind us */
     if (has_start(link) && job->request.asks_for_address)
         strings_add(line, "-Wl,--undefined=asancol_by_flag");
     if (has_start(link) && job->request.runs_itself)

@@ -34,6 +34,7 @@ struct link_request {
     bool has_libc;      /* named by itself */
     bool has_libm;      /* the mathematics of the C library */
     bool has_cxx_inside; /* the library of C++ is linked as an archive */
+    bool has_undefined_inside; /* so is UndefinedBehaviorSanitizer's runtime of GCC */
     const char *cxx;     /* a word that names this library, the last one; or null */
     bool is_stripped;   /* the linked file has no table of symbols */
     bool is_traced;     /* the caller wants to see what the linker takes in */
