@@ -36,7 +36,7 @@ _asancol_report() {
         return
         ;;
     --leaks)
-        mapfile -t COMPREPLY < <(compgen -W 'summary no yes' -- "$word")
+        mapfile -t COMPREPLY < <(compgen -W 'yes summary no' -- "$word")
         return
         ;;
     esac

@@ -21,7 +21,7 @@ complete -c asancol-report -l shadow -d 'print the shadow bytes around each bad 
 complete -c asancol-report -l unchecked -x -a 'list no error' -d 'unchecked code: list, no or error'
 complete -c asancol-report -l no-machines -d 'omit names of machines and times of runs'
 complete -c asancol-report -s q -l quiet -d 'print nothing if all is clean'
-complete -c asancol-report -l leaks -x -a 'summary no yes' -d 'leaks: summary, no or yes'
+complete -c asancol-report -l leaks -x -a 'yes summary no' -d 'leaks: yes (reports), summary or no'
 complete -c asancol-report -l suppressions -r -F -d 'reports that do not count'
 complete -c asancol-report -l gen-suppressions -d 'print with each report the line that suppresses it'
 complete -c asancol-report -l baseline -r -F -d 'reports of this result of --json do not count'

@@ -22,7 +22,7 @@ _arguments -S \
     '--unchecked=[unchecked code: list, no or error]:how:(list no error)' \
     '--no-machines[omit names of machines and times of runs]' \
     '(-q --quiet)'{-q,--quiet}'[print nothing if all is clean]' \
-    '--leaks=[leaks: summary, no or yes]:how:(summary no yes)' \
+    '--leaks=[leaks: yes (reports), summary or no]:how:(yes summary no)' \
     '*--suppressions=[reports that do not count]:file:_files' \
     '--gen-suppressions[print with each report the line that suppresses it]' \
     '--baseline=[reports of this result of --json do not count]:file:_files -g "*.jsonl(-.)"' \

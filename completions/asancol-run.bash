@@ -57,7 +57,7 @@ _asancol_run() {
         return
         ;;
     --leaks)
-        mapfile -t COMPREPLY < <(compgen -W 'summary no yes' -- "$word")
+        mapfile -t COMPREPLY < <(compgen -W 'yes summary no' -- "$word")
         return
         ;;
     esac

@@ -56,7 +56,7 @@ complete -c asancol-run -n '_asancol_run_takes option' -l shadow -d 'print the s
 complete -c asancol-run -n '_asancol_run_takes option' -l unchecked -x -a 'list no error' -d 'unchecked code: list, no or error'
 complete -c asancol-run -n '_asancol_run_takes option' -s q -l quiet -d 'print nothing if all is clean'
 complete -c asancol-run -n '_asancol_run_takes option' -s v -l verbose -d 'print a line for each process'
-complete -c asancol-run -n '_asancol_run_takes option' -l leaks -x -a 'summary no yes' -d 'leaks: summary, no or yes'
+complete -c asancol-run -n '_asancol_run_takes option' -l leaks -x -a 'yes summary no' -d 'leaks: yes (reports), summary or no'
 complete -c asancol-run -n '_asancol_run_takes option' -l suppressions -r -F -d 'reports that do not count'
 complete -c asancol-run -n '_asancol_run_takes option' -l gen-suppressions -d 'print with each report the line that suppresses it'
 complete -c asancol-run -n '_asancol_run_takes option' -l baseline -r -F -d 'reports of this result of --json do not count'

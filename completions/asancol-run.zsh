@@ -29,7 +29,7 @@ _arguments -S \
     '--unchecked=[unchecked code: list, no or error]:how:(list no error)' \
     '(-q --quiet)'{-q,--quiet}'[print nothing if all is clean]' \
     '(-v --verbose)'{-v,--verbose}'[print a line for each process]' \
-    '--leaks=[leaks: summary, no or yes]:how:(summary no yes)' \
+    '--leaks=[leaks: yes (reports), summary or no]:how:(yes summary no)' \
     '*--suppressions=[reports that do not count]:file:_files' \
     '--gen-suppressions[print with each report the line that suppresses it]' \
     '--baseline=[reports of this result of --json do not count]:file:_files -g "*.jsonl(-.)"' \

@@ -3,4 +3,6 @@
 #include <string.h>
 int main(int count, char **argv) {
     char *word = argv[count - 1], *copy = malloc(strlen(word));
-    return strcpy(copy, word) == NULL || puts(word) < 0; }
+    int failed = strcpy(copy, word) == NULL || puts(word) < 0;
+    free(copy);
+    return failed; }

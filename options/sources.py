@@ -62,6 +62,9 @@ def header_of(program: Program, made: str) -> str:
     """Returns the header for options.c."""
     of_check = [it for it in program.options if it.of("Passed to") == "asancol check"]
     numbers = [it for it in program.options if it.takes.least and it.of("Default") and it not in of_check]
+    defaults = [f".{it.of('Sets')} = {it.of('Default')}" for it in numbers]
+    defaults += [f".{it.of('Sets')} = {it.takes.words.index(it.of('Default'))}" for it in program.options
+                 if it.takes.words and it.of("Sets")]
     bounds = [f"#define MAX_OF_{it.name[2:].upper()} {it.takes.most}" for it in of_check]
     known = [it for it in of_check if it.of("Default").isdecimal()]
     bounds += [f"#define DEFAULT_OF_{it.name[2:].upper()} {it.of('Default')}" for it in known]
@@ -74,7 +77,7 @@ def header_of(program: Program, made: str) -> str:
         "",
         "/* clang-format off */",
         macro("OPTION_HELP", [json.dumps(f"{it}\n") for it in help_of(program)]),
-        macro("OPTION_DEFAULTS", [f".{it.of('Sets')} = {it.of('Default')}" for it in numbers], ","),
+        macro("OPTION_DEFAULTS", defaults, ","),
         macro("OPTION_ROWS", [row_of(it, name) for it in program.options for name in it.names], ","),
         *bounds,
         "",

@@ -5,6 +5,7 @@
 
 #include <errno.h>
 #include <inttypes.h>
+#include <signal.h>
 #include <stdio.h>
 #include <stdlib.h>
 #include <string.h>
@@ -186,12 +187,36 @@ static enum done take_help(const struct asan_word *word)
     return asan_is_yes(word) ? TAKEN : WITHOUT_EFFECT;
 }
 
+/* With which status AddressSanitizer ends a program, by its options: of each, the last word counts. */
+static struct {
+    bool has_exitcode, halts, aborts;
+} asked;
+
+/* Takes them where the command line has no status. Leaves 99 if halt_on_error=0 asks for the program's own. */
+static void take_statuses(struct options *options)
+{
+    char number[8];
+    bool halts = asked.halts && getenv("ASANCOL_HALT") == NULL;
+    snprintf(number, sizeof number, "%d", asked.aborts ? 128 + SIGABRT : 1);
+    if (asked.aborts || (halts && !asked.has_exitcode))
+        asked.has_exitcode = give(options, "exitcode", must(strdup(number))) == TAKEN;
+    options->of_crash = asked.has_exitcode ? options->exitcode : 0;
+}
+
+static enum done take_exitcode(struct options *options, const struct asan_word *word)
+{
+    if (!is_number_to(word, UINT8_MAX))
+        return WITHOUT_EFFECT;
+    asked.has_exitcode = options_give(options, "exitcode", value_of(word));
+    return asked.has_exitcode ? TAKEN : OVERRULED;
+}
+
 /* Gives our own option for it its value. */
 static enum done take_for_run(struct options *options, const struct asan_word *word)
 {
     switch (word->option) {
     case ASAN_exitcode:
-        return is_number_to(word, UINT8_MAX) ? give(options, "exitcode", value_of(word)) : WITHOUT_EFFECT;
+        return take_exitcode(options, word);
     case ASAN_detect_leaks:
         if (asan_is_yes(word) || asan_is_no(word))
             return give(options, "leaks", asan_is_yes(word) ? "yes" : "no");
@@ -221,9 +246,9 @@ static enum done note_for_processes(struct options *options, const struct asan_w
     if (has_levels ? !is_number_to(word, UINT8_MAX) : !asan_is_yes(word) && !asan_is_no(word))
         return WITHOUT_EFFECT;
     if (word->option == ASAN_halt_on_error)
-        options->may_halt = asan_is_yes(word);
+        options->may_halt = asked.halts = asan_is_yes(word);
     if (word->option == ASAN_abort_on_error)
-        options->may_halt |= asan_is_yes(word);
+        options->may_halt |= asked.aborts = asan_is_yes(word);
     return TAKEN;
 }
 
@@ -323,12 +348,11 @@ static void take_variable(struct options *options, const char *variable)
 
 void asan_take(struct options *options)
 {
-    if (options->self != NULL) /* a program has started this run for itself: by default as with AddressSanitizer */
-        give(options, "leaks", "yes");
     if (IS_SANITIZED) /* they are for this program itself */
         return;
     take_variable(options, "ASAN_OPTIONS");
     take_variable(options, "LSAN_OPTIONS");
+    take_statuses(options);
 }
 
 const char *asan_hint(const char *name, size_t length)
@@ -338,7 +362,7 @@ const char *asan_hint(const char *name, size_t length)
     } known[] = {
         {"halt", "ASANCOL_HALT=1 in the environment ends each process at its first bad access"},
         {"halt_on_error", "ASANCOL_HALT=1 in the environment ends each process at its first bad access"},
-        {"detect_leaks", "did you mean --leaks=yes?"},
+        {"detect_leaks", "did you mean --leaks=yes or --leaks=no?"},
         {"log_path", "did you mean --log-path?"},
         {"quarantine_size_mb", "did you mean --quarantine, in bytes?"},
     };

@@ -300,6 +300,28 @@ static enum said said_by(enum report_answer answer)
     }
 }
 
+/* Whether the command crashed in a way that AddressSanitizer turns into a status by default. */
+static bool is_crash_of_asan(pid_t command, int status)
+{
+    const struct process *process = process_of_peer(command);
+    int signal = WIFSIGNALED(status) ? WTERMSIG(status) : 0;
+    if (signal != SIGSEGV && signal != SIGBUS && signal != SIGFPE)
+        return false;
+    for (; process != NULL; process = process_next_of_peer(process))
+        if (segments_joined(process).is_crash)
+            return true;
+    return false;
+}
+
+/* What options of AddressSanitizer's change: the status of a crash, and SIGABRT is one if the command died of it. */
+static int status_as_asan(int status, const struct options *options, const struct run_end *end)
+{
+    if (status == STATUS_OF_COMMAND && options->of_crash != 0 && is_crash_of_asan(end->command, end->status))
+        return (int)options->of_crash;
+    bool has_aborted = WIFSIGNALED(end->status) && WTERMSIG(end->status) == SIGABRT;
+    return has_aborted && status == 128 + SIGABRT ? STATUS_OF_COMMAND : status;
+}
+
 /* Ends as the run does, or by the signal of the command. */
 static int due_status(const struct options *options, enum report_answer answer, const struct sum *sum,
                       const struct run_end *end, bool is_incomplete)
@@ -308,7 +330,7 @@ static int due_status(const struct options *options, enum report_answer answer, 
     struct statuses statuses = {options->exitcode, options->incomplete, options->nothing};
     seen.said = said_by(answer);
     seen.is_cut_short |= is_incomplete;
-    int status = status_of(&seen, &statuses);
+    int status = status_as_asan(status_of(&seen, &statuses), options, end);
     if (serving_is_on()) {
         serving_answer(status);
         return 0;
@@ -407,6 +429,7 @@ int main(int count, char **argv)
     struct nested nested = nested_found();
     struct run_end end = {
         .seconds = now() - started,
+        .command = command,
         .status = collected.status,
         .nothing = sum.recorded + sum.marks == 0 && !nested.has_recorded,
         .missing = options.at_least > sum.recorded ? options.at_least - sum.recorded : 0,

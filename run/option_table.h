@@ -37,7 +37,7 @@
     "  -q, --quiet              print nothing if all is clean\n" \
     "  -v, --verbose            print a line for each process\n" \
     "Which reports count:\n" \
-    "  --leaks HOW              leaks: summary, no or yes (summary)\n" \
+    "  --leaks HOW              leaks: yes (reports), summary or no (yes)\n" \
     "  --suppressions FILE      reports that do not count; may be repeated\n" \
     "  --gen-suppressions       print with each report the line that suppresses it\n" \
     "  --baseline FILE          reports of this result of --json do not count\n" \
@@ -57,7 +57,9 @@
     .incomplete = 98, \
     .nothing = 98, \
     .at_least = 0, \
-    .wait = 5
+    .wait = 5, \
+    .leaks = 0, \
+    .unchecked = 0
 
 #define OPTION_ROWS \
     {"exitcode", 0, SET_NUMBER, AT(exitcode), 0, 255, NULL}, \
@@ -83,7 +85,7 @@
     {"color", 0, PASS_WORDS, 0, 0, 0, (const char *const[]){"auto", "always", "never", NULL}}, \
     {"full-stacks", 0, PASS_FLAG, 0, 0, 0, NULL}, \
     {"shadow", 0, PASS_FLAG, 0, 0, 0, NULL}, \
-    {"leaks", 0, PASS_WORDS, AT(leaks), 0, 0, (const char *const[]){"summary", "no", "yes", NULL}}, \
+    {"leaks", 0, PASS_WORDS, AT(leaks), 0, 0, (const char *const[]){"yes", "summary", "no", NULL}}, \
     {"unchecked", 0, PASS_WORDS, AT(unchecked), 0, 0, (const char *const[]){"list", "no", "error", NULL}}, \
     {"quiet", 'q', SET_FLAG, AT(quiet), 0, 0, NULL}, \
     {"verbose", 'v', SET_FLAG, AT(verbose), 0, 0, NULL}, \

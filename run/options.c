@@ -475,13 +475,15 @@ static void take_from_outer(struct options *options)
 /* The given part of this, for runs inside this one. */
 static void note_for_inner(struct options *options)
 {
-    static const char leaks[] = "--leaks", rules[] = "--suppressions";
-    static const char *const words[] = {"summary", "no", "yes"};
+    static const char rules[] = "--suppressions";
+    const struct option *leaks = find("--leaks", strlen("--leaks"));
+    bool gives_leaks = is_given[leaks - table];
     char *text = NULL;
     size_t length = 0;
     FILE *to = must(open_memstream(&text, &length));
-    if (is_given[find(leaks, strlen(leaks)) - table])
-        fprintf(to, "%s=%s\n", leaks, words[options->leaks]);
+    options->demands_leaks = gives_leaks && options->leaks == LEAKS_YES;
+    if (gives_leaks)
+        fprintf(to, "--leaks=%s\n", leaks->words[options->leaks]);
     if (options->no_mismatches)
         fputs("--no-mismatches\n", to);
     for (size_t i = 0; i + 1 < options->report.count; i++)
@@ -509,7 +511,6 @@ struct options options_read(char **argv)
         take_from_outer(&options);
         note_for_inner(&options);
     }
-    options.demands_leaks = options.leaks == LEAKS_YES;
     if (options.are_files)
         unsetenv("ASANCOL_QUARANTINE"); /* it does not cover earlier recordings */
     else

@@ -12,12 +12,13 @@
 #include "common/string_list.h"
 #include "unchecked.h"
 
-/* What happens to leaks: they are summed up, nobody looks for them, or each place is a report. */
-enum leaks { LEAKS_SUMMARY, LEAKS_NO, LEAKS_YES };
+/* What happens to leaks, by the words of --leaks: each place is a report, they are summed up, or nobody looks. */
+enum leaks { LEAKS_YES, LEAKS_SUMMARY, LEAKS_NO };
 
 struct options {
     /* Statuses; 0 leaves that of the command. */
     uint64_t exitcode, incomplete, nothing;
+    uint64_t of_crash; /* of the command, as options of AddressSanitizer's ask for it */
     uint64_t at_least;
     double wait;
     double timeout; /* 0: none */
@@ -40,7 +41,7 @@ struct options {
     /* What ASAN_OPTIONS and LSAN_OPTIONS ask of processes, and lines about them: for the summary, and for --verbose. */
     bool may_halt;
     struct strings asan_notes, asan_taken;
-    bool demands_leaks; /* --leaks=yes was given: that wins */
+    bool demands_leaks; /* --leaks=yes was given: that wins over a process that asks for none */
     bool log_is_alone;  /* the files of --log-path alone have reports, as ASAN_OPTIONS asks for it */
     const char *for_inner; /* given options that hold for runs inside this one too: options, one a line; or null */
     struct strings check;   /* for asancol check */

@@ -17,6 +17,7 @@
 /* What came of the whole run. */
 struct run_end {
     double seconds;
+    pid_t command;
     int status;   /* of the command, as of waitpid */
     bool nothing; /* was recorded */
     uint64_t missing;

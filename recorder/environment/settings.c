@@ -256,13 +256,15 @@ static void read_options_of_asan(struct settings *settings)
     enum { LEAKS_IN_ANY_CASE = 2 };
     asan_options_read(value_of("ASAN_OPTIONS"), value_of("LSAN_OPTIONS"));
     uint64_t held = asan_options_hold(MAX_QUARANTINE, QUARANTINE_BOUND);
-    bool aborts = asan_options_say(ASAN_abort_on_error, false), exits = !asan_options_say(ASAN_abort_on_error, true);
-    bool halts = asan_options_say(ASAN_halt_on_error, aborts || LLVMFuzzerTestOneInput != NULL);
+    bool aborts = asan_options_say(ASAN_abort_on_error, false), is_fuzzer = LLVMFuzzerTestOneInput != NULL;
+    bool halts = asan_options_say(ASAN_halt_on_error, aborts || is_fuzzer);
+    bool exits = asan_options_say(ASAN_halt_on_error, false) && !is_fuzzer && value_of("ASANCOL_HALT") == NULL;
     uint64_t returns = asan_options_say(ASAN_detect_stack_use_after_return, true);
     uint64_t leaks = number_of("ASANCOL_LEAKS", 0, LEAKS_IN_ANY_CASE, 0);
     bool mismatches = number_of("ASANCOL_MISMATCHES", 0, 1, 1) == 1;
     settings->quarantine = number_of("ASANCOL_QUARANTINE", 0, MAX_QUARANTINE, held);
     settings->halt = (enum halt)number_of("ASANCOL_HALT", HALT_NEVER, HALT_AND_RECORD, halts ? HALT : HALT_NEVER);
+    exits = !asan_options_say(ASAN_abort_on_error, !exits);
     settings->halt_status = exits ? (int)asan_options_level(ASAN_exitcode, UINT8_MAX, 1) : -1;
     settings->use_after_return = number_of("ASANCOL_USE_AFTER_RETURN", 0, 1, returns) == 1;
     settings->with_leaks = settings->with_side

@@ -25,7 +25,7 @@ Text:
   --no-machines        omit names of machines and times of runs
   -q, --quiet          print nothing if all is clean
 Which reports count:
-  --leaks HOW          leaks: summary, no or yes (summary)
+  --leaks HOW          leaks: yes (reports), summary or no (yes)
   --suppressions FILE  reports that do not count; may be repeated
   --gen-suppressions   print with each report the line that suppresses it
   --baseline FILE      reports of this result of --json do not count
@@ -56,13 +56,13 @@ SHORT = {
 WORDS = {
     "--format": ("asancol", "asan"),
     "--color": ("auto", "always", "never"),
-    "--leaks": ("summary", "no", "yes"),
+    "--leaks": ("yes", "summary", "no"),
     "--unchecked": ("list", "no", "error"),
 }
 DEFAULTS = {
     "--format": "asancol",
     "--color": "auto",
-    "--leaks": "summary",
+    "--leaks": "yes",
     "--unchecked": "list",
 }
 OF_CHECK = (

@@ -195,11 +195,13 @@ def rules(folder: str) -> None:
                        ("leak:make\n", "asancol: leaks: 8 bytes in 1 block at 1 place; --leaks=yes shows them\n")):
         with open(f"{folder}/rules", "w", encoding="utf-8") as file:
             file.write(rule)
-        ran = report(folder, "--trace", "b.trace", "--suppressions", "rules", "--json", "c.json")
+        ran = report(folder, "--trace", "b.trace", "--leaks=summary", "--suppressions", "rules", "--json", "c.json")
         expect((ran.status, ran.out.endswith(text)), (0, True), ran.out)
         again = report(folder, "c.json", "c.json")
         expect((again.status, again.out), (0, ran.out), "read again")
         expect_in(report(folder, "c.json", "--format=asan").out, "; ASAN_OPTIONS=detect_leaks=1 shows them\n")
+    ran = report(folder, "--trace", "b.trace")
+    expect((ran.status, "2 reports at 2 places (2 by the recorder)" in ran.out), (1, True), ran.out)
     ran = report(folder, "--trace", "b.trace", "--leaks=no")
     expect((ran.status, "leak" in ran.out), (0, False), ran.out)
     ran = report(folder, "b.json", "a.json", "--baseline", "a.json")

@@ -29,7 +29,11 @@ def check_statuses(suite: Suite, folder: str) -> None:
     ran(7, PAST, option="--error-exitcode=7", ASAN_OPTIONS="exitcode=42")
     ran(43, PAST, ASAN_OPTIONS="exitcode=42", LSAN_OPTIONS="verbosity=1:exitcode='43'")
     ran(99, "ASAN_OPTIONS: without effect here: exitcode=300\n", ASAN_OPTIONS="exitcode=300")
-    ran(99, HALTED, "in store_past ", ASAN_OPTIONS="halt_on_error=1")
+    ran(1, HALTED, "in store_past ", ASAN_OPTIONS="halt_on_error=1")
+    ran(5, HALTED, option="--exitcode=5", ASAN_OPTIONS="halt_on_error=1:abort_on_error=0")
+    ran(5, HALTED, option="--exitcode=5", ASAN_OPTIONS="abort_on_error=1:exitcode=42")
+    ran(-signal.SIGSEGV, "1 crashed", option="--exitcode=5", way="crashes", ASAN_OPTIONS="exitcode=42")
+    ran(99, HALTED, ASANCOL_HALT="1", ASAN_OPTIONS="halt_on_error=1")
     ran(99, PAST, "all complete\n", ASAN_OPTIONS="halt_on_error=1", ASANCOL_HALT="0")
     ran(99, "1048576 bytes of freed memory are held back (--quarantine)", option="--full",
         ASAN_OPTIONS="quarantine_size_mb=1")
@@ -45,20 +49,24 @@ def check_statuses(suite: Suite, folder: str) -> None:
 
 
 def check_ends(suite: Suite, folder: str) -> None:
-    """With abort_on_error=1 a process ends at its first report by SIGABRT, and with 0, if it halts, with the status of
-    AddressSanitizer."""
+    """With abort_on_error=1 a process ends at its first report by SIGABRT, and else, if it halts by AddressSanitizer's
+    options, with the status of that."""
     def ends(options: str, status: int, *texts: str) -> None:
         result = f"{folder}/r"
         words = ["--json", result, "--", "sh", "-c", f"{suite.program} past; echo status $? >&2"]
         ran = suite.run(*words, ASAN_OPTIONS=options, ASANCOL_REPORT=REPORT)
         expect_ran(ran, status, *texts)
-    ends("abort_on_error=1", 99, "status 134\n", HALTED)
-    ends("abort_on_error=1:halt_on_error=0", 99, "status 0\n", PAST)
+    ends("abort_on_error=1", 134, "status 134\n", HALTED)
+    ends("abort_on_error=1:halt_on_error=0", 134, "status 0\n", PAST)
     ends("abort_on_error=0", 99, "status 0\n", PAST)
-    ends("abort_on_error=0:halt_on_error=1", 99, "status 1\n", HALTED)
+    ends("halt_on_error=1", 1, "status 1\n", HALTED)
+    ends("abort_on_error=0:halt_on_error=1", 1, "status 1\n", HALTED)
     ends("abort_on_error=0:halt_on_error=1:exitcode=42", 42, "status 42\n", HALTED)
     halts = {"ASAN_OPTIONS": "abort_on_error=0:halt_on_error=1", "ASANCOL_REPORT": REPORT}
-    expect(suite.run_argv([suite.program, "past"], ASANCOL_RUN=RUN, **halts).status, 99, "the status of its own run")
+    expect(suite.run_argv([suite.program, "past"], ASANCOL_RUN=RUN, **halts).status, 1, "the status of its own run")
+    aborts = {"ASAN_OPTIONS": "abort_on_error=1", "ASANCOL_REPORT": REPORT, "ASANCOL_RUN": RUN}
+    for argv in ([RUN, "--", suite.program, "past"], [suite.program, "past"]):
+        expect(suite.run_argv(argv, **aborts).status, -signal.SIGABRT, "the command's own signal")
 
 
 def check_named(suite: Suite, folder: str) -> None:
@@ -109,7 +117,9 @@ def check_leaks(suite: Suite, folder: str) -> None:
         argv = [option, "--", "sh", "-c", f"{before} {program}"]
         absent = ["asancol: leaks: "] if "leaks=0" in str(settings) else []
         expect_ran(suite.run(*argv, ASANCOL_REPORT=REPORT, **settings), status, *texts, absent=absent)
-    ran(0, "asancol: leaks: 300 bytes")
+    ran(99, "Direct leak of 300 byte(s)")
+    ran(0, "asancol: leaks: 300 bytes", option="--leaks=summary")
+    ran(0, "asancol: leaks: 300 bytes", option="--leaks=summary", ASAN_OPTIONS="detect_leaks=1")
     ran(99, "Direct leak of 300 byte(s)", ASAN_OPTIONS="detect_leaks=1")
     ran(99, "Direct leak of 300 byte(s)", ASAN_OPTIONS="detect_leaks=0", LSAN_OPTIONS="detect_leaks=1")
     ran(0, "no reports; 1 process", ASAN_OPTIONS="detect_leaks=0")
@@ -118,7 +128,7 @@ def check_leaks(suite: Suite, folder: str) -> None:
         ASAN_OPTIONS="detect_leaks=1")
     write_text(f"{folder}/known", "# known\nleak:^lose$\nodr_violation:x\n")
     ran(0, "no reports, 1 suppressed;", ASAN_OPTIONS="detect_leaks=1", LSAN_OPTIONS=f"suppressions={folder}/known")
-    ran(0, f"LSAN_OPTIONS: without effect here: suppressions={folder}/no (not a readable file)\n",
+    ran(99, f"LSAN_OPTIONS: without effect here: suppressions={folder}/no (not a readable file)\n",
         LSAN_OPTIONS=f"suppressions={folder}/no")
 
 
@@ -179,15 +189,15 @@ def check_death_test(suite: Suite, folder: str) -> None:
     ran = suite.run("--json", result, "--", f"{folder}/d", **halts)
     expect_ran(ran, 0, "asancol: no reports; 2 processes, ", line, absent=[PAST, "SUMMARY: asancol"])
     expect_in(suite.run_argv([REPORT, result]).out, "asancol: no reports; 2 processes, ", line)
-    exits = {"ASAN_OPTIONS": "halt_on_error=1:abort_on_error=0", "ASANCOL_REPORT": REPORT}
-    expect_ran(suite.run("--", f"{folder}/d", **exits), 0, line, absent=[PAST])
+    aborts = {"ASANCOL_HALT": "1", "ASANCOL_REPORT": REPORT}
+    expect_ran(suite.run("--", f"{folder}/d", **aborts), 0, line, absent=[PAST])
     expect_in(suite.run_argv([REPORT, "--crashes", result]).out, PAST, "asancol: 1 report at 1 place; 2 processes, ")
     expect_ran(suite.run("--", f"{folder}/d", **halts), 0, "asancol: no reports; 2 processes, ", line)
     expect_ran(suite.run("-q", "--", f"{folder}/d", **halts), 0, absent=["asancol: "])
-    expect_ran(suite.run("--crashes", "--", f"{folder}/d", **halts), 99, HALTED, absent=["waited for"])
-    expect_ran(suite.run("--", "sh", "-c", f"{folder}/d; {folder}/d 2 3; true", **halts), 99, HALTED)
-    expect_ran(suite.run("--", "sh", "-c", f"{suite.program} past; true", **halts), 99, HALTED, absent=["waited for"])
-    expect_ran(suite.run("--", "sh", "-c", f"{folder}/d; exit 3", **halts), 99, HALTED, absent=["waited for"])
+    expect_ran(suite.run("--crashes", "--", f"{folder}/d", **halts), 1, HALTED, absent=["waited for"])
+    expect_ran(suite.run("--", "sh", "-c", f"{folder}/d; {folder}/d 2 3; true", **halts), 1, HALTED)
+    expect_ran(suite.run("--", "sh", "-c", f"{suite.program} past; true", **halts), 1, HALTED, absent=["waited for"])
+    expect_ran(suite.run("--", "sh", "-c", f"{folder}/d; exit 3", **halts), 1, HALTED, absent=["waited for"])
     expect_ran(suite.run("--", f"{folder}/d", ASANCOL_REPORT=REPORT), 99, PAST, absent=["waited for"])
 
 
@@ -211,13 +221,13 @@ def check_halts(suite: Suite, folder: str) -> None:
         with open(path, encoding="utf-8") as file:
             return file.read()
 
-    def texts(ran: Ran, status: int = 99) -> Tuple[int, int]:
+    def texts(ran: Ran, status: int = 1) -> Tuple[int, int]:
         expect(ran.status, status, ran.err)
         return ran.err.count(HALTED), ran.err.count("ERROR: ")
     for word in ("--wait=5", "--format=asan", "--live", "-q"):
         for halt in ("1", "2"):
             ran = suite.run(word, "--", *past.split(), ASANCOL_HALT=halt, **halts)
-            expect(texts(ran), (1, 1), ran.err)
+            expect(texts(ran, 99), (1, 1), ran.err)
             expect_in(ran.err, " in store_past ", "asancol: 1 report at 1 place; 1 process, ")
     ran = suite.run_argv(past.split(), ASANCOL_RUN=RUN, **halts)
     expect(texts(ran), (1, 1), ran.err)
@@ -247,8 +257,9 @@ def check_halts(suite: Suite, folder: str) -> None:
     expect_not_in(read(f"{folder}/e"), "store_past")
     expect(read(f"{folder}/e").count(HALTED), 1, "the process's own text")
     write_text(f"{folder}/known", "at:heap-buffer-overflow:store_past\n")
-    ran = suite.run("--suppressions", f"{folder}/known", "--", *past.split(), **halts)
-    expect(texts(ran, -signal.SIGABRT), (0, 0), ran.err)
+    for settings, status in ((halts, 1), ({"ASANCOL_HALT": "1", "ASANCOL_REPORT": REPORT}, -signal.SIGABRT)):
+        ran = suite.run("--suppressions", f"{folder}/known", "--", *past.split(), **settings)
+        expect(texts(ran, status), (0, 0), ran.err)
 
 
 THREADED = """
@@ -272,6 +283,8 @@ def check_exit_at_halt(suite: Suite, folder: str) -> None:
                     ASANCOL_REPORT=REPORT)
     with open(f"{folder}/e", encoding="utf-8") as file:
         expect_in(file.read(), HALTED, " in past /", "ABORTING")
+    expect(ran.out, "1\n", ran.err)
+    ran = suite.run("--", "sh", "-c", f"{folder}/t 2> {folder}/e; echo $?", ASANCOL_HALT="1", ASANCOL_REPORT=REPORT)
     expect(ran.out, f"{128 + signal.SIGABRT}\n", ran.err)
 
 
@@ -280,21 +293,22 @@ def check_log_path(suite: Suite, folder: str) -> None:
     nothing else."""
     summary = re.compile(r"asancol: (1 report at 1 place|no reports); 1 process, \d+ events?; all complete.*\n")
 
-    def check(way: str, text: str, ran: Ran, is_said: bool) -> None:
+    def check(way: str, text: str, ran: Ran, is_said: bool, status: int) -> None:
         (path,) = glob.glob(f"{folder}/log.*")
         with open(path, encoding="utf-8") as file:
             expect_in(file.read(), text)
         os.unlink(path)
         expect(summary.fullmatch(ran.err) is not None if is_said else ran.err == "", True, f"{way}: {ran.err}")
-        expect((ran.status, ran.out), (-signal.SIGSEGV if way == "crashes" else 99, ""), way)
+        expect((ran.status, ran.out), (status, ""), way)
 
     for way, text in (("past", "in store_past "), ("crashes", "AddressSanitizer: SEGV ")):
         for halts in ("0", "1"):
             given = {"ASAN_OPTIONS": f"log_path={folder}/log:halt_on_error={halts}", "ASANCOL_REPORT": REPORT}
-            check(way, text, suite.run("--", suite.program, way, **given), True)
-            check(way, text, suite.run("--live", "--", suite.program, way, **given), True)
-            check(way, text, suite.run("-q", "--", suite.program, way, **given), False)
-            check(way, text, suite.run_argv([suite.program, way], ASANCOL_RUN=RUN, **given), False)
+            status = 1 if halts == "1" else -signal.SIGSEGV if way == "crashes" else 99
+            check(way, text, suite.run("--", suite.program, way, **given), True, status)
+            check(way, text, suite.run("--live", "--", suite.program, way, **given), True, status)
+            check(way, text, suite.run("-q", "--", suite.program, way, **given), False, status)
+            check(way, text, suite.run_argv([suite.program, way], ASANCOL_RUN=RUN, **given), False, status)
     aborted = suite.run("--", suite.program, "aborts", ASAN_OPTIONS=f"log_path={folder}/log", ASANCOL_REPORT=REPORT)
     expect((aborted.status, glob.glob(f"{folder}/log.*")), (0, []), "a child that aborts")
     alone = suite.run_argv([suite.program, "past"], ASANCOL_HALT="1", ASAN_OPTIONS=f"log_path={folder}/alone")
@@ -315,7 +329,7 @@ def check_no_log(suite: Suite, folder: str) -> None:
     said = "File name too long; its reports are printed instead\n"
     for argv in ["--"], ["-q", "--"], ["--live", "--"]:
         expect_ran(suite.run(*argv, suite.program, "past", **given), 99, said, HALTED, "in store_past ")
-    expect_ran(suite.run("--", suite.program, "past", **halts), 99, said, HALTED)
+    expect_ran(suite.run("--", suite.program, "past", **halts), 1, said, HALTED)
     expect_ran(suite.run_argv([suite.program, "past"], ASANCOL_RUN=RUN, **given), 99, said, HALTED)
     expect_ran(suite.run("--", suite.program, "crashes", **given), -signal.SIGSEGV, said, "AddressSanitizer: SEGV ")
     two = suite.run("-q", "--", "sh", "-c", f"{suite.program} past; {suite.program} past", **given)
@@ -346,9 +360,11 @@ def check_at_once(suite: Suite, folder: str) -> None:
 
 def check_functions(suite: Suite, folder: str) -> None:
     """What the program says by its functions holds for it, and else is named."""
-    for leaks, option, text in ("1", "yes", "no reports, 1 suppressed; "), ("0", "summary", "no reports; "):
+    for leaks, option, text in (("1", "--leaks=yes", "no reports, 1 suppressed; "),
+                                ("0", "--leaks=yes", "no reports, 1 suppressed; "),
+                                ("0", "--leaks=summary", "no reports; "), ("0", "--wait=5", "no reports; ")):
         program = make(folder, "gcc", PROGRAM + OF_PROGRAM.replace("DETECT", leaks))
-        ran = suite.run(f"--leaks={option}", "--", program, ASANCOL_REPORT=REPORT)
+        ran = suite.run(option, "--", program, ASANCOL_REPORT=REPORT)
         expect_ran(ran, 0, text, "start_deactivated=1 (__asan_default_options)",
                    "checks turned off by __asan_default_options:",
                    absent=["symbolize", "asancol: leaks:"])

@@ -1,4 +1,4 @@
-"""Leaks: a line of the verdict, or a report for each place."""
+"""Leaks: a report for each place, or a line of the verdict."""
 
 import json
 import os
@@ -28,6 +28,11 @@ int main(int count, char **argv) {
     return 0; }
 """
 SUMMED = "asancol: leaks: 370 bytes in 5 blocks at 3 places; --leaks=yes shows them\n"
+REPORTED = ["ERROR: asancol: detected memory leaks (by the recorder)\n",
+            "\nDirect leak of 300 byte(s) in 3 object(s) allocated from:\n    #0 0x", " in lose ",
+            "\nDirect leak of 40 byte(s) in 1 object(s) allocated from:\n",
+            "\nIndirect leak of 30 byte(s) in 1 object(s) allocated from:\n",
+            "asancol: 3 reports at 3 places (3 by the recorder); 1 process, ", "\nSUMMARY: asancol: leak "]
 
 
 def run_it(suite: Suite, *argv: str) -> Ran:
@@ -44,21 +49,17 @@ def make(folder: str, compiler: str, text: str = PROGRAM, *flags: str) -> str:
 
 def check_forms(suite: Suite, folder: str, compiler: str) -> None:
     program = make(folder, compiler)
-    ran = run_it(suite, "--", program, "two")
+    for words in (["--"], ["--leaks=yes", "--"], ["--full", "--"], ["-q", "--"]):
+        expect_ran(run_it(suite, *words, program, "two"), 99, *REPORTED, absent=["asancol: leaks:"])
+    expect_ran(suite.run_argv([program, "two"], ASANCOL_REPORT=REPORT, ASANCOL_RUN=RUN), 99, *REPORTED)
+    ran = run_it(suite, "--leaks=summary", "--", program, "two")
     expect_ran(ran, 0, "asancol: no reports; 1 process, ", "\n" + SUMMED, absent=["ERROR", "SUMMARY"])
     ran = run_it(suite, "--leaks=no", "--", program, "two")
     expect_ran(ran, 0, "asancol: no reports; 1 process, ", absent=["leaks"])
-    ran = run_it(suite, "--quiet", "--", program, "two")
+    ran = run_it(suite, "--quiet", "--leaks=summary", "--", program, "two")
     expect((ran.status, "ERROR" in ran.err), (0, False), "quiet")
-    ran = run_it(suite, "--leaks=yes", "--", program, "two")
-    expect_ran(ran, 99, "ERROR: asancol: detected memory leaks (by the recorder)\n",
-               "\nDirect leak of 300 byte(s) in 3 object(s) allocated from:\n    #0 0x", " in lose ",
-               "\nDirect leak of 40 byte(s) in 1 object(s) allocated from:\n",
-               "\nIndirect leak of 30 byte(s) in 1 object(s) allocated from:\n",
-               "asancol: 3 reports at 3 places (3 by the recorder); 1 process, ", "\nSUMMARY: asancol: leak ",
-               absent=["asancol: leaks:"])
     ran = run_it(suite, "--leaks=maybe", "--", program)
-    expect_ran(ran, 125, "asancol-run: --leaks: 'maybe' is not one of summary, no and yes\n")
+    expect_ran(ran, 125, "asancol-run: --leaks: 'maybe' is not one of yes, summary and no\n")
 
 
 def check_rules(suite: Suite, folder: str, compiler: str) -> None:
@@ -68,16 +69,16 @@ def check_rules(suite: Suite, folder: str, compiler: str) -> None:
                        ("indirect-leak:lose_two", "leaks: 340 bytes in 4 blocks at 2 places;")):
         with open(f"{folder}/rules", "w", encoding="utf-8") as file:
             file.write(rule + "\n")
-        ran = run_it(suite, "--suppressions", f"{folder}/rules", "--", program, "two")
+        ran = run_it(suite, "--leaks=summary", "--suppressions", f"{folder}/rules", "--", program, "two")
         expect_ran(ran, 0, left, absent=["matched nothing"] + ([] if left else ["leaks:"]))
-        ran = run_it(suite, "--leaks=yes", "--suppressions", f"{folder}/rules", "--", program, "two")
+        ran = run_it(suite, "--suppressions", f"{folder}/rules", "--", program, "two")
         expect_ran(ran, 99 if left else 0, " suppressed; 1 process, ")
 
 
 def check_outputs(suite: Suite, folder: str, compiler: str) -> None:
     program = make(folder, compiler)
     outputs = [f"--{name}={folder}/out.{name}" for name in FORMS]
-    ran = run_it(suite, "--leaks=yes", *outputs, "--", program, "two")
+    ran = run_it(suite, *outputs, "--", program, "two")
     expect_ran(ran, 99)
     texts: Dict[str, str] = {}
     for name in FORMS:
@@ -93,7 +94,9 @@ def check_outputs(suite: Suite, folder: str, compiler: str) -> None:
     expect(any("leak" in (it.get("type") or "") for it in failures), True, "JUnit")
     for name in FORMS:
         expect_in(texts[name], "irect leak of 300 byte(s) in 3 object(s)")
-    ran = run_it(suite, f"--json={folder}/sum.json", "--", program, "two")
+    known = run_it(suite, f"--baseline={folder}/out.json", "--", program, "two")
+    expect_ran(known, 0, "asancol: no reports, 3 places known from the baseline; 1 process, ")
+    ran = run_it(suite, "--leaks=summary", f"--json={folder}/sum.json", "--", program, "two")
     with open(f"{folder}/sum.json", encoding="utf-8") as file:
         text = file.read()
     run = next(it for it in map(json.loads, text.splitlines()) if it["type"] == "run")
@@ -104,22 +107,24 @@ def check_outputs(suite: Suite, folder: str, compiler: str) -> None:
 def check_several(suite: Suite, folder: str, compiler: str) -> None:
     """A place is one, in however many processes it leaks."""
     program = make(folder, compiler)
-    ran = run_it(suite, "--", "sh", "-c", f"{program}; {program}; {program} two")
+    ran = run_it(suite, "--leaks=summary", "--", "sh", "-c", f"{program}; {program}; {program} two")
     expect_ran(ran, 0, "asancol: leaks: 970 bytes in 11 blocks at 3 places; --leaks=yes shows them\n")
-    ran = run_it(suite, "--leaks=yes", "--", "sh", "-c", f"{program}; {program}; {program} two")
+    ran = run_it(suite, "--", "sh", "-c", f"{program}; {program}; {program} two")
     expect_ran(ran, 99, "detected memory leaks (by the recorder, 3 times, 3 processes)\n",
                "\nDirect leak of 900 byte(s) in 9 object(s) allocated from:\n", "asancol: 5 reports at 3 places ")
     argv = [f"--json={folder}/{name}.json" for name in ("one", "two")]
-    run_it(suite, "--leaks=yes", argv[0], "--", program)
-    run_it(suite, "--leaks=yes", argv[1], "--", "sh", "-c", f"{program}; {program} two")
+    run_it(suite, argv[0], "--", program)
+    run_it(suite, argv[1], "--", "sh", "-c", f"{program}; {program} two")
     merged = suite.run_argv([REPORT, f"{folder}/one.json", f"{folder}/two.json"])
     texts = [text.split("asancol: 5 reports")[0] for text in (ran.err, merged.out)]
     first, again = (re.findall("==ERROR: .*\n.* allocated from:", text) for text in texts)
     expect(first, again, "merged")
     for name, words in (("one", [program]), ("two", ["sh", "-c", f"{program}; {program} two"])):
-        run_it(suite, f"--json={folder}/{name}-sum.json", "--", *words)
+        run_it(suite, "--leaks=summary", f"--json={folder}/{name}-sum.json", "--", *words)
     merged = suite.run_argv([REPORT, f"{folder}/one-sum.json", f"{folder}/two-sum.json"])
     expect_in(merged.out, "asancol: leaks: 970 bytes in 11 blocks at 3 to ")
+    merged = suite.run_argv([REPORT, f"{folder}/one.json", f"{folder}/two-sum.json"])
+    expect_in(merged.out, "asancol: 1 report at 1 place ", "asancol: leaks: 670 bytes in 8 blocks at 3 places")
 
 
 STUCK = """
@@ -143,9 +148,9 @@ def check_stuck(suite: Suite, folder: str, compiler: str) -> None:
     """If leaks could not be looked for, nobody calls the process clean of them."""
     program = make(folder, compiler, STUCK, "-pthread")
     said = f"asancol: leaks are not looked for: {program}: a thread does not stop\n"
-    ran = run_it(suite, "--leaks=yes", "--", program)
+    ran = run_it(suite, "--", program)
     expect_ran(ran, 98, said, "INCOMPLETE: its leaks were not looked for, such as when a thread does not stop\n")
-    ran = run_it(suite, f"--json={folder}/out.json", "--", program)
+    ran = run_it(suite, "--leaks=summary", f"--json={folder}/out.json", "--", program)
     note = "asancol: leaks of a process were not looked for, such as when a thread does not stop\n"
     expect_ran(ran, 7, said, "all complete\n", note)
     expect_in(suite.run_argv([REPORT, f"{folder}/out.json"]).out, note)
@@ -191,8 +196,8 @@ def check_filtered(suite: Suite, folder: str, compiler: str) -> None:
     for how, status, said in ((["strict", "leaves"], 7, "all complete\n"),
                               (["kill"], 99, "detected memory leaks"),
                               (["errno"], 99, "detected memory leaks")):
-        expect_ran(run_it(suite, "--leaks=yes", "--", program, *how), status, said)
-    expect_ran(run_it(suite, "--", program, "errno"), 7, "all complete\n", "leaks: 100 bytes")
+        expect_ran(run_it(suite, "--", program, *how), status, said)
+    expect_ran(run_it(suite, "--leaks=summary", "--", program, "errno"), 7, "all complete\n", "leaks: 100 bytes")
 
 
 # How a process with other threads ends, for leaving.c. Each has status 3, and the output that it has alone.
@@ -201,9 +206,9 @@ LEAVINGS = ["watched", "ticks", "exits-in-thread", "exits-beside-pause", "exits-
 
 
 def ways_of_running(suite: Suite) -> List[Callable[..., Ran]]:
-    """Returns under asancol-run, with leaks as reports, and with a run of its own."""
+    """Returns under asancol-run, with leaks summed up, and with a run of its own."""
     return [lambda *argv: run_it(suite, "-q", "--", *argv),
-            lambda *argv: run_it(suite, "-q", "--leaks=yes", "--", *argv),
+            lambda *argv: run_it(suite, "-q", "--leaks=summary", "--", *argv),
             lambda *argv: suite.run_argv(argv, ASANCOL_REPORT=REPORT, ASANCOL_RUN=RUN)]
 
 

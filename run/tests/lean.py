@@ -72,13 +72,14 @@ def check_used_again(suite: Suite, folder: str, compiler: str) -> None:
     line = "./program: reused freed memory after "
     for quarantine, full, has_line in (("1000000", "", True), ("", "", False), ("1000000", "1", False)):
         settings = {"ASANCOL_QUARANTINE": quarantine, "ASANCOL_FULL": full}
-        ran = suite.run("--json=result", "--", "./program", "scattered", "200000", cwd=folder, ASANCOL_REPORT=REPORT,
-                        **settings)
+        ran = suite.run("--leaks=no", "--json=result", "--", "./program", "scattered", "200000", cwd=folder,
+                        ASANCOL_REPORT=REPORT, **settings)
         expect_ran(ran, 0, "asancol: no reports; 1 process, ", "; all complete\n", *[line] * has_line,
                    absent=[line] * (not has_line))
         with open(f"{folder}/result", encoding="utf-8") as file:
             expect("used_again" in json.loads(file.read().splitlines()[1]), has_line, f"the result, with {settings}")
-    ran = suite.run("-q", "--", "./program", "scattered", "200000", cwd=folder, ASANCOL_QUARANTINE="1000000")
+    ran = suite.run("-q", "--leaks=no", "--", "./program", "scattered", "200000", cwd=folder,
+                    ASANCOL_QUARANTINE="1000000")
     expect_ran(ran, 0, absent=["asancol"])
 
 

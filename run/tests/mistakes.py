@@ -63,7 +63,7 @@ def check_each_end(suite: Suite, folder: str) -> None:
         (["crash"], ["1 report at 1 place (1 by the recorder)", "1 crashed"]),
         (["killed"], ["1 report at 1 place (1 by the recorder)", "1 ended abruptly"]),
     ):
-        expect_ran(run_real(suite, "--", program, *argv), 99, TITLE, "in overlap ", *texts)
+        expect_ran(run_real(suite, "--leaks=no", "--", program, *argv), 99, TITLE, "in overlap ", *texts)
     expect_ran(run_real(suite, "--exitcode", "7", "-q", "--", program, "once"), 7, TITLE)
     expect_ran(run_real(suite, "--live", "--", program, "once"), 99, TITLE, "SUMMARY: asancol: memcpy-param-overlap ")
 

@@ -85,7 +85,7 @@ def check_filters(suite: Suite, folder: str, compiler: str) -> None:
         if ran.status == 9:
             leave_out("filters of system calls: the system takes none")
             return
-        alone: List[Ran] = [ran, suite.run_argv(bad), suite.run("-q", "--", *argv, ASANCOL_REPORT=REPORT),
+        alone: List[Ran] = [ran, suite.run_argv(bad), suite.run("-q", "--leaks=no", "--", *argv, ASANCOL_REPORT=REPORT),
                             run_alone(suite, *argv, ASAN_OPTIONS="detect_leaks=0")]
         for ran in alone:
             expect((ran.status, ran.out, ran.err), (3, "end", ""), words)

@@ -354,7 +354,7 @@ def check_recorded(suite: Suite, folder: str, program: str) -> None:
     ):
         for limit, full in (("400", "1"), ("1000000", "1"), ("400", "0"), ("1000000", "0")):
             settings = {"ASANCOL_REPORT": REPORT, "ASANCOL_LIMIT": limit, "ASANCOL_FULL": full}
-            ran = suite.run("-v", "--", program, *words.split(), **settings)
+            ran = suite.run("-v", "--leaks=no", "--", program, *words.split(), **settings)
             expect_ran(ran, status, *texts)
             expect(" segments, " in ran.err, (limit, full) == ("400", "1"), f"{words}, {limit}, {full}: segments")
 
@@ -385,7 +385,7 @@ def check_recorded_traces(suite: Suite, folder: str, program: str) -> None:
     argv = [program, "blocks", "1000", "700"]
     said = "1 report at 1 place; 1 process, 2003 events; all complete\n"
     expect_ran(suite.run("--keep", f"{folder}/kept", "--", *argv, **settings), 99, said, "in blocks ")
-    settings["ASANCOL_WHERE"] = "1"
+    settings.update(ASANCOL_WHERE="1", ASANCOL_LEAKS="1")
     suite.run_argv(argv, cwd=folder, ASANCOL_TRACE="t.trace", **settings)
     suite.run_argv(argv, cwd=folder, ASANCOL_TRACE="newest.trace", ASANCOL_SEGMENTS="2", **settings)
     kept = [f"{folder}/kept/{it}" for it in os.listdir(f"{folder}/kept") if it.endswith(".trace")]

@@ -126,10 +126,10 @@ RUNS: Dict[str, Tuple[str, int, List[str]]] = {
     ]),
     "mismatches are wanted": ("--unchecked=error -- env ASANCOL_MISMATCHES=0 PROGRAM sound", 98, []),
     "mismatches are not wanted in the run": ("--no-mismatches --unchecked=error -- PROGRAM sound", 0, ["all complete"]),
-    "leaks are not wanted": ("--leaks=yes -- env ASANCOL_LEAKS=0 PROGRAM sound", 0, [
+    "leaks are not wanted": ("-- env ASANCOL_LEAKS=0 PROGRAM sound", 0, [
         "not checked: leaks (ASANCOL_LEAKS is not 1)\n"
     ]),
-    "leaks are but a line": ("-- env ASANCOL_LEAKS=0 PROGRAM sound", 0, ["all complete"]),
+    "leaks are but a line": ("--leaks=summary -- env ASANCOL_LEAKS=0 PROGRAM sound", 0, ["all complete"]),
     "use after return is not looked for": ("-- env ASANCOL_USE_AFTER_RETURN=0 PROGRAM sound", 0, ["all complete"]),
     "frames that nobody looked at": ("-- ENDED skipped=8", 0, ["not checked: frames in a block, from another stack\n"]),
     "addresses of no trace": ("-- ENDED skipped=32", 0, ["not checked: accesses at addresses that no trace has\n"]),
@@ -163,7 +163,7 @@ REFUSED: Dict[str, Tuple[str, str]] = {
     "beginning": ("--code f true", "did you mean --codequality?"),
     "halt": ("--halt true", "unknown option --halt; ASANCOL_HALT=1 in the environment ends each process"),
     "AddressSanitizer's": ("--log_path=x true", "unknown option --log_path; did you mean --log-path?"),
-    "AddressSanitizer's, with dashes": ("--detect-leaks=1 true", "did you mean --leaks=yes?"),
+    "AddressSanitizer's, with dashes": ("--detect-leaks=1 true", "did you mean --leaks=yes or --leaks=no?"),
     "AddressSanitizer's alone": ("--strip-path-prefix=/a true", "ASAN_OPTIONS=strip_path_prefix=.. in the environment"),
     "letter": ("-x true", "unknown option -x\n"),
     "valgrind's": ("--leak-check=full true", "unknown option --leak-check\n"),

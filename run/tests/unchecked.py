@@ -98,7 +98,7 @@ def check_outputs(suite: Suite, folder: str, compiler: str) -> None:
     ran = suite.run(RUN, "./more", cwd=folder, ASANCOL_REPORT=REPORT)
     expect_ran(ran, 0, "not checked: n0.o, n1.o")
     expect(ran.err.count("; not checked: n0.o, n1.o"), 2, ran.err)
-    ran = suite.run_argv(["./some"], cwd=folder, ASANCOL_TRACE="t.trace", ASANCOL_WHERE="1")
+    suite.run_argv(["./some"], cwd=folder, ASANCOL_TRACE="t.trace", ASANCOL_WHERE="1", ASANCOL_LEAKS="1")
     ran = suite.run_argv([REPORT, "--trace", "t.trace"], cwd=folder)
     expect_in(ran.out, "; not checked: u.o\n")
     expect_not_in(ran.out, "all complete")
@@ -121,7 +121,13 @@ def check_libraries(suite: Suite, folder: str, compiler: str) -> None:
     expect_in(ran.out, f"; all complete; {TWO}\n")
     expect_in(suite.run_argv([REPORT, "both"], cwd=folder).out, f"; all complete; {TWO}\n")
     suite.run_argv(argv, cwd=folder, ASANCOL_TRACE="t.trace", ASANCOL_WHERE="1")
-    expect_in(suite.run_argv([REPORT, "--trace", "t.trace"], cwd=folder).out, f"; all complete; {TWO}\n")
+    no_leaks = "leaks (ASANCOL_LEAKS is not 1)"
+    expect_in(suite.run_argv([REPORT, "--trace", "t.trace"], cwd=folder).out,
+              f"; not checked: {no_leaks}, and 2 libraries of the system\n")
+    expect(suite.run_argv([REPORT, "--unchecked=error", "--trace", "t.trace"], cwd=folder).status, 3, no_leaks)
+    suite.run_argv(argv, cwd=folder, ASANCOL_TRACE="l.trace", ASANCOL_WHERE="1", ASANCOL_LEAKS="1")
+    for words in (["--trace", "l.trace"], ["--leaks=no", "--trace", "t.trace"]):
+        expect_in(suite.run_argv([REPORT, *words], cwd=folder).out, f"; all complete; {TWO}\n")
     with open(f"{folder}/plus.cpp", "w", encoding="utf-8") as file:
         file.write(CXX_MAIN)
     cxx = {"gcc": "g++", "clang": "clang++"}[compiler]

@@ -124,7 +124,7 @@ def check_names(suite: Suite, folder: str) -> None:
     for compiler in filter(shutil.which, ("gcc", "clang")):
         argv = [CC, "-g", "-w", "faults.c", "-o", compiler + "-faults"]
         call(argv, cwd=folder, check=True, env={**os.environ, "ASANCOL_CC": compiler})
-        argv = ["--source-root", folder, "--shadow", "--", f"{folder}/{compiler}-faults"]
+        argv = ["--source-root", folder, "--shadow", "--leaks=no", "--", f"{folder}/{compiler}-faults"]
         ran = run_real(suite, "--json", f"{folder}/x", *argv)
         found = re.findall(r"ERROR: asancol: (.*?)(?:: .*)?\n    #0 .* faults\.c:(\d+):\d+\n", ran.err)
         expect(found, [(ATTEMPTS.get(name, name), line) for name, line in wanted], ran.err)
@@ -394,6 +394,7 @@ def check_nested_options(suite: Suite, folder: str) -> None:
     with open(f"{folder}/known", "w", encoding="utf-8") as file:
         file.write("leak:^lose$\nheap-buffer-overflow:*\n")
     for outer, middle, status, texts in (
+        ("--wait=5", "--", 99, ["Direct leak of 300 byte(s)"]),
         ("--leaks=summary", "--", 0, ["leaks: 300 bytes in 3 blocks", "--leaks=yes shows them"]),
         ("--leaks=yes", "--", 99, ["Direct leak of 300 byte(s)", "asancol: 1 report at 1 place (1 by the recorder)"]),
         ("--leaks=yes", f"-- {inner} --", 99, ["Direct leak of 300 byte(s)"]),
