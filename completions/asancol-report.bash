@@ -32,7 +32,7 @@ _asancol_report() {
         return
         ;;
     --unchecked)
-        mapfile -t COMPREPLY < <(compgen -W 'list no error' -- "$word")
+        mapfile -t COMPREPLY < <(compgen -W 'list list-all no error' -- "$word")
         return
         ;;
     --leaks)

@@ -19,7 +19,7 @@ _arguments -S \
     '--color=[colors: auto, always or never]:when:(auto always never)' \
     '--full-stacks[print all frames of a stack, and whole names]' \
     '--shadow[print the shadow bytes around each bad byte]' \
-    '--unchecked=[unchecked code: list, no or error]:how:(list no error)' \
+    '--unchecked=[unchecked code: list, list-all, no or error]:how:(list list-all no error)' \
     '--no-machines[omit names of machines and times of runs]' \
     '(-q --quiet)'{-q,--quiet}'[print nothing if all is clean]' \
     '--leaks=[leaks: yes (reports), summary or no]:how:(yes summary no)' \

@@ -53,7 +53,7 @@ _asancol_run() {
         return
         ;;
     --unchecked)
-        mapfile -t COMPREPLY < <(compgen -W 'list no error' -- "$word")
+        mapfile -t COMPREPLY < <(compgen -W 'list list-all no error' -- "$word")
         return
         ;;
     --leaks)

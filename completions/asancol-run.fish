@@ -53,7 +53,7 @@ complete -c asancol-run -n '_asancol_run_takes option' -l source-root -x -a '(__
 complete -c asancol-run -n '_asancol_run_takes option' -l color -x -a 'auto always never' -d 'colors: auto, always or never'
 complete -c asancol-run -n '_asancol_run_takes option' -l full-stacks -d 'print all frames of a stack, and whole names'
 complete -c asancol-run -n '_asancol_run_takes option' -l shadow -d 'print the shadow bytes around each bad byte'
-complete -c asancol-run -n '_asancol_run_takes option' -l unchecked -x -a 'list no error' -d 'unchecked code: list, no or error'
+complete -c asancol-run -n '_asancol_run_takes option' -l unchecked -x -a 'list list-all no error' -d 'unchecked code: list, list-all, no or error'
 complete -c asancol-run -n '_asancol_run_takes option' -s q -l quiet -d 'print nothing if all is clean'
 complete -c asancol-run -n '_asancol_run_takes option' -s v -l verbose -d 'print a line for each process'
 complete -c asancol-run -n '_asancol_run_takes option' -l leaks -x -a 'yes summary no' -d 'leaks: yes (reports), summary or no'

@@ -26,7 +26,7 @@ _arguments -S \
     '--color=[colors: auto, always or never]:when:(auto always never)' \
     '--full-stacks[print all frames of a stack, and whole names]' \
     '--shadow[print the shadow bytes around each bad byte]' \
-    '--unchecked=[unchecked code: list, no or error]:how:(list no error)' \
+    '--unchecked=[unchecked code: list, list-all, no or error]:how:(list list-all no error)' \
     '(-q --quiet)'{-q,--quiet}'[print nothing if all is clean]' \
     '(-v --verbose)'{-v,--verbose}'[print a line for each process]' \
     '--leaks=[leaks: yes (reports), summary or no]:how:(yes summary no)' \

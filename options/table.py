@@ -160,7 +160,7 @@ def takes_of(text: str) -> Takes:
     kind, _, pattern = text.partition(", ")
     if kind in KINDS:
         return Takes(KINDS[kind], pattern=pattern)
-    if text and not re.fullmatch(r"[a-z]+(, [a-z]+)+", text):
+    if text and not re.fullmatch(r"[a-z-]+(, [a-z-]+)+", text):
         raise Wrong(f"this is nothing that an option takes: {text}")
     return Takes("words", words=tuple(text.split(", "))) if text else Takes("flag")
 

@@ -39,6 +39,7 @@
 #include "signals.h"
 #include "status.h"
 #include "unchecked.h"
+#include "unrecorded.h"
 #include "verdict.h"
 
 /* What all processes come to. */
@@ -214,6 +215,8 @@ static struct strings notes_of(const struct options *options)
     }
     for (size_t i = 0; i < options->asan_notes.count; i++)
         strings_add(&lines, options->asan_notes.items[i]);
+    if (options->preload_note != NULL)
+        strings_add(&lines, options->preload_note);
     return lines;
 }
 
@@ -266,8 +269,8 @@ static enum report_answer conclude(const struct options *options, const struct s
     lines_say(options->quiet, options->crashes);
     for (size_t i = 0; i < end->troubles.count; i++)
         say("asancol: %s", end->troubles.items[i]);
-    bool is_listed = (options->unchecked == UNCHECKED_LIST && unchecked_is_news())
-                     || (options->unchecked == UNCHECKED_ERROR && unchecked_count() > 0);
+    bool is_listed = options->unchecked == UNCHECKED_ERROR ? unchecked_count() > 0
+                                                           : options->unchecked != UNCHECKED_NO && unchecked_is_news();
     if (!options->quiet || is_incomplete || is_listed || answer == ANSWER_NONE || answer == ANSWER_ARGUMENTS)
         say_summary(sum, is_incomplete, options->unchecked != UNCHECKED_NO);
     if (sum->awaited > 0 && (!options->quiet || is_incomplete))
@@ -427,6 +430,7 @@ int main(int count, char **argv)
     struct collected collected = loop_run(&options, command, signals);
     struct sum sum = sum_up(&options, command, collected.status);
     struct nested nested = nested_found();
+    unrecorded_take(options.unchecked == UNCHECKED_LIST_ALL);
     struct run_end end = {
         .seconds = now() - started,
         .command = command,

@@ -12,6 +12,7 @@
 #include <unistd.h>
 
 #include "common/array.h"
+#include "common/program_marks.h"
 #include "common/text.h"
 
 /* Says which start of the system the lock of a folder is from: it is made once that is held, and on another machine
@@ -138,7 +139,7 @@ const char *folder_lost(void)
 /* Whether a run, or a process of it, gives such a name. */
 static bool is_name_of_run(const char *name)
 {
-    static const char *const fronts[] = {"hub", "ask", BOOT, "nested.", ".nested."};
+    static const char *const fronts[] = {"hub", "ask", BOOT, "nested.", ".nested.", MARK_OURS, MARK_OTHERS};
     for (size_t i = 0; i < COUNT(fronts); i++)
         if (begins_with(name, fronts[i]))
             return true;

@@ -33,7 +33,7 @@
     "  --color WHEN             colors: auto, always or never (auto)\n" \
     "  --full-stacks            print all frames of a stack, and whole names\n" \
     "  --shadow                 print the shadow bytes around each bad byte\n" \
-    "  --unchecked HOW          unchecked code: list, no or error (list)\n" \
+    "  --unchecked HOW          unchecked code: list, list-all, no or error (list)\n" \
     "  -q, --quiet              print nothing if all is clean\n" \
     "  -v, --verbose            print a line for each process\n" \
     "Which reports count:\n" \
@@ -86,7 +86,7 @@
     {"full-stacks", 0, PASS_FLAG, 0, 0, 0, NULL}, \
     {"shadow", 0, PASS_FLAG, 0, 0, 0, NULL}, \
     {"leaks", 0, PASS_WORDS, AT(leaks), 0, 0, (const char *const[]){"yes", "summary", "no", NULL}}, \
-    {"unchecked", 0, PASS_WORDS, AT(unchecked), 0, 0, (const char *const[]){"list", "no", "error", NULL}}, \
+    {"unchecked", 0, PASS_WORDS, AT(unchecked), 0, 0, (const char *const[]){"list", "list-all", "no", "error", NULL}}, \
     {"quiet", 'q', SET_FLAG, AT(quiet), 0, 0, NULL}, \
     {"verbose", 'v', SET_FLAG, AT(verbose), 0, 0, NULL}, \
     {"suppressions", 0, PASS_INPUT, 0, 0, 0, NULL}, \

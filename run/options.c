@@ -516,7 +516,8 @@ struct options options_read(char **argv)
     else
         asan_take(&options);
     follow_recorder(&options);
-    if (options.preloads)
-        options.preloaded = preload_value();
+    bool has_marker = options.unchecked != UNCHECKED_NO && options.served == 0;
+    if (!options.are_files)
+        options.preloaded = preload_value(options.preloads, has_marker, &options.preload_note);
     return options;
 }

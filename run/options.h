@@ -26,7 +26,8 @@ struct options {
     bool no_mismatches;     /* of families of functions that allocate: they are not noted */
     bool records_full;      /* each malloc and free */
     bool preloads;          /* the recorder into programs that asancol-cc did not build */
-    const char *preloaded;  /* LD_PRELOAD with that, or null */
+    const char *preloaded;  /* LD_PRELOAD with that and what marks programs, or null: it stays */
+    const char *preload_note; /* why programs are not marked, or null */
     enum unchecked unchecked;
     enum leaks leaks;
     const char *log;        /* or null */

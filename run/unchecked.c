@@ -1,5 +1,5 @@
-/* Two lists of names, of the user's modules and of the system's; and the list that came last, since most processes have
-   the same. */
+/* Three lists of names: of the user's modules, of programs, and of the system's modules; and the list that came last,
+   since most processes have the same. */
 #define _GNU_SOURCE
 #include "unchecked.h"
 
@@ -14,8 +14,8 @@
 
 /* The most names that are kept, and the most in a summary. */
 enum { MAX_NAMES = 4096, MAX_SAID = 5 };
-/* A packet for asancol-report has at most 65,536 bytes: this part of it for each of the two lists. */
-enum { MAX_OWN_BYTES = 40000, MAX_SYSTEM_BYTES = 12000 };
+/* A packet for asancol-report has at most 65,536 bytes: these parts of it for the lists. */
+enum { MAX_OWN_BYTES = 28000, MAX_PROGRAM_BYTES = 14000, MAX_SYSTEM_BYTES = 10000 };
 
 struct names {
     char **names;
@@ -23,7 +23,7 @@ struct names {
 };
 
 static struct {
-    struct names own, system;
+    struct names own, programs, system;
     char last[SIDE_UNCHECKED_ROOM + 1]; /* what the process before had: most have the same */
 } unchecked;
 
@@ -43,13 +43,19 @@ static void add(struct names *names, const char *name)
     names->names[names->count++] = must(strdup(name));
 }
 
+/* Nothing in a name does anything to a terminal. */
+static void make_printable(char *name)
+{
+    for (; *name != 0; name++)
+        if ((unsigned char)*name < ' ' || *name == 0x7f)
+            *name = '?';
+}
+
 /* A line: a name, or a library of the system after a slash, or how many more there are after a plus sign. A suppression
    of the program, after an exclamation mark, is for asancol-report. */
 static void take_line(char *line)
 {
-    for (char *at = line; *at != 0; at++)
-        if ((unsigned char)*at < ' ' || *at == 0x7f)
-            *at = '?';
+    make_printable(line);
     if (line[0] == '+')
         unchecked.own.more += strtoull(line + 1, NULL, 10) % INT_MAX;
     else if (line[0] == '/' && line[1] != 0)
@@ -104,6 +110,17 @@ void unchecked_take(const struct segment *segment)
     }
 }
 
+void unchecked_add_program(const char *path, const char *file)
+{
+    for (size_t i = 0; i < unchecked.own.count; i++)
+        if (strcmp(unchecked.own.names[i], file) == 0)
+            return;
+    char *name = must(strdup(path));
+    make_printable(name);
+    add(&unchecked.programs, name);
+    free(name);
+}
+
 static int by_name(const void *left, const void *right)
 {
     return strcmp(*(char *const *)left, *(char *const *)right);
@@ -123,7 +140,7 @@ static size_t count_of(const struct names *names)
 
 size_t unchecked_count(void)
 {
-    return count_of(&unchecked.own);
+    return count_of(&unchecked.own) + count_of(&unchecked.programs);
 }
 
 bool unchecked_is_news(void)
@@ -136,7 +153,7 @@ bool unchecked_is_news(void)
 
 bool unchecked_is_any(void)
 {
-    return count_of(&unchecked.own) + count_of(&unchecked.system) > 0;
+    return unchecked_count() + count_of(&unchecked.system) > 0;
 }
 
 static const char *find_sanitizer(const struct names *names)
@@ -155,17 +172,29 @@ const char *unchecked_sanitizer(void)
     return found != NULL ? found : find_sanitizer(&unchecked.own);
 }
 
+static void say_first(FILE *to, struct names *names)
+{
+    size_t said = names->count < MAX_SAID ? names->count : MAX_SAID;
+    sort(names);
+    for (size_t i = 0; i < said; i++)
+        fprintf(to, "%s%s", i == 0 ? "" : ", ", names->names[i]);
+    if (count_of(names) > said)
+        fprintf(to, " and %zu more", count_of(names) - said);
+}
+
 void unchecked_say(FILE *to)
 {
-    size_t said = unchecked.own.count < MAX_SAID ? unchecked.own.count : MAX_SAID;
-    sort(&unchecked.own);
-    for (size_t i = 0; i < said; i++)
-        fprintf(to, "%s%s", i == 0 ? "" : ", ", unchecked.own.names[i]);
-    if (unchecked_count() > said)
-        fprintf(to, " and %zu more", unchecked_count() - said);
+    size_t own = count_of(&unchecked.own), programs = count_of(&unchecked.programs);
     size_t libraries = count_of(&unchecked.system);
+    say_first(to, &unchecked.own);
+    if (programs > 0) {
+        const char *front = own == 0 ? "" : libraries > 0 ? ", " : ", and ";
+        fprintf(to, "%s%zu program%s: ", front, programs, plural(programs, "s"));
+        say_first(to, &unchecked.programs);
+        fputs(" (not built with asancol-cc)", to);
+    }
     if (libraries > 0)
-        fprintf(to, "%s%zu librar%s of the system", unchecked_count() > 0 ? ", and " : "", libraries,
+        fprintf(to, "%s%zu librar%s of the system", own + programs > 0 ? ", and " : "", libraries,
                 libraries == 1 ? "y" : "ies");
 }
 
@@ -181,6 +210,7 @@ static void say_names(const char *what, struct names *names)
 void unchecked_say_all(void)
 {
     say_names("not checked", &unchecked.own);
+    say_names("program not built with asancol-cc, not checked", &unchecked.programs);
     say_names("library of the system, not checked", &unchecked.system);
 }
 
@@ -206,7 +236,9 @@ void unchecked_put(FILE *to)
 {
     fputs(",\"unchecked\":", to);
     size_t more = put(to, &unchecked.own, MAX_OWN_BYTES);
-    fprintf(to, ",\"unchecked_more\":%zu,\"system\":", more);
+    fprintf(to, ",\"unchecked_more\":%zu,\"unrecorded\":", more);
+    more = put(to, &unchecked.programs, MAX_PROGRAM_BYTES);
+    fprintf(to, ",\"unrecorded_more\":%zu,\"system\":", more);
     more = put(to, &unchecked.system, MAX_SYSTEM_BYTES);
     fprintf(to, ",\"system_more\":%zu", more);
 }

@@ -57,6 +57,8 @@ def run_entry(run: Run, number: int, counts: Counts) -> Entry:
         entry["troubles"] = list(run.said)
     if run.unchecked or run.unchecked_more:
         entry["unchecked"], entry["unchecked_more"] = list(run.unchecked), run.unchecked_more
+    if run.unrecorded or run.unrecorded_more:
+        entry["unrecorded"], entry["unrecorded_more"] = list(run.unrecorded), run.unrecorded_more
     if run.system or run.system_more:
         entry["system"], entry["system_more"] = list(run.system), run.system_more
     if run.cut:
@@ -302,6 +304,8 @@ def end_run(run: Run, entry: Entry) -> None:
     run.said = words_of(entry.get("troubles"))
     run.unchecked = dict.fromkeys(words_of(entry.get("unchecked")))
     run.unchecked_more = number_of(entry.get("unchecked_more"))
+    run.unrecorded = dict.fromkeys(words_of(entry.get("unrecorded")))
+    run.unrecorded_more = number_of(entry.get("unrecorded_more"))
     run.system = dict.fromkeys(words_of(entry.get("system")))
     run.system_more = number_of(entry.get("system_more"))
 

@@ -21,7 +21,7 @@ Text:
   --color WHEN         colors: auto, always or never (auto)
   --full-stacks        print all frames of a stack, and whole names
   --shadow             print the shadow bytes around each bad byte
-  --unchecked HOW      unchecked code: list, no or error (list)
+  --unchecked HOW      unchecked code: list, list-all, no or error (list)
   --no-machines        omit names of machines and times of runs
   -q, --quiet          print nothing if all is clean
 Which reports count:
@@ -57,7 +57,7 @@ WORDS = {
     "--format": ("asancol", "asan"),
     "--color": ("auto", "always", "never"),
     "--leaks": ("yes", "summary", "no"),
-    "--unchecked": ("list", "no", "error"),
+    "--unchecked": ("list", "list-all", "no", "error"),
 }
 DEFAULTS = {
     "--format": "asancol",

@@ -81,6 +81,8 @@ class Run:
         self.said: Tuple[str, ...] = ()  # why not all was seen: lines of asancol-run
         self.unchecked: Dict[str, None] = {}  # what asancol-cc did not compile
         self.unchecked_more = 0  # how many names are left out
+        self.unrecorded: Dict[str, None] = {}  # programs that asancol-cc did not build, by their paths
+        self.unrecorded_more = 0  # how many are left out
         self.system: Dict[str, None] = {}  # libraries of the system, without those of C and C++
         self.system_more = 0  # how many names are left out
         self.cut = ""  # it stands for a file that could not be read to its end: why
@@ -339,8 +341,16 @@ class Results:
         """Returns how many libraries of the system were not checked."""
         return len({name for run in self.runs for name in run.system}) + sum(run.system_more for run in self.runs)
 
+    def unrecorded(self) -> List[str]:
+        """Returns the programs that asancol-cc did not build, in their order."""
+        return sorted({name for run in self.runs for name in run.unrecorded})
+
+    def unrecorded_count(self) -> int:
+        return len(self.unrecorded()) + sum(run.unrecorded_more for run in self.runs)
+
     def unchecked_count(self) -> int:
-        return len(self.unchecked()) + sum(run.unchecked_more for run in self.runs)
+        """Returns how much was not checked, without libraries of the system."""
+        return len(self.unchecked()) + sum(run.unchecked_more for run in self.runs) + self.unrecorded_count()
 
     def has_unchecked_news(self) -> bool:
         """Whether there is more than what the options of AddressSanitizer have turned off (`unchecked_is_news`)."""

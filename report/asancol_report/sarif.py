@@ -160,6 +160,7 @@ def invocation(run: Run) -> Part:
     notes = [f"process {process.pid} {command_line(process.command[:1])} {process.why}: seen up to there"
              for process in run.processes.values() if process.is_abrupt]
     notes += [f"not checked: {', '.join(run.unchecked)}"] * bool(run.unchecked)
+    notes += [f"not checked: {', '.join(run.unrecorded)} (not built with asancol-cc)"] * bool(run.unrecorded)
     made: Part = {
         "commandLine": whole_characters(command_line(run.command)),
         "executionSuccessful": not texts and not run.failure,

@@ -341,10 +341,21 @@ def totals_line(results: Results) -> str:
 
 
 def unchecked_text(results: Results, most: int = MAX_UNCHECKED_SAID) -> str:
-    """Returns the first names of unchecked code, how many more there are, and how many libraries of the system.
-    asancol-run says the same of one run (`unchecked_say`)."""
-    names = results.unchecked()[:most]
-    more, libraries = results.unchecked_count() - len(names), results.system_count()
-    texts = [", ".join(names) + (f" and {more} more" if more else "")] if names or more else []
-    texts += [f"{plural(libraries, 'library')} of the system"] if libraries else []
-    return printable(", and ".join(texts))
+    """Returns the first names of unchecked code and of programs, how many more there are, and how many libraries of the
+    system. asancol-run says the same of one run (`unchecked_say`)."""
+    programs, libraries = results.unrecorded_count(), results.system_count()
+    code = results.unchecked_count() - programs
+    texts = [first_names(results.unchecked(), code, most)] if code else []
+    if programs:
+        names = first_names(results.unrecorded(), programs, most)
+        texts.append(f"{plural(programs, 'program')}: {names} (not built with asancol-cc)")
+    if libraries:
+        texts.append(f"{plural(libraries, 'library')} of the system")
+    before = ", ".join(texts[:-1])
+    return printable(f"{before}, and {texts[-1]}" if before else texts[-1])
+
+
+def first_names(names: List[str], count: int, most: int) -> str:
+    """Returns the first of some names, and how many more there are."""
+    more = count - len(names[:most])
+    return ", ".join(names[:most]) + (f" and {more} more" if more else "")

@@ -90,7 +90,7 @@ def check_checkers(suite: Suite, folder: str, program: str) -> None:
 def check_full_disk(suite: Suite, folder: str, program: str) -> None:
     """Where no trace can be kept, processes are checked all the same."""
     line = (f"mount -t tmpfs -o size=64k none {folder} && mkdir {folder}/kept && cat /dev/zero > {folder}/full; "
-            f"TMPDIR={folder} exec {RUN} --keep {folder}/kept -- sh -c '{program} 40; {suite.program} sound'")
+            f"TMPDIR={folder} {RUN} --unchecked=no --keep {folder}/kept sh -c '{program} 40; {suite.program} sound'")
     ran = suite.run_argv(["unshare", "-rm", "sh", "-c", line])
     expect_ran(ran, 0, "no reports; 41 processes, 2 events; all complete", "not all of the trace could be kept")
 

@@ -138,7 +138,7 @@ def check_places(suite: Suite, folder: str) -> None:
 
     run = copied("all", "bin", "asancol-run")
     used = copied("all", "lib", "asancol", PRELOADED)
-    say = ["--preload", "sh", "-c", "echo $LD_PRELOAD"]
+    say = ["--preload", "--unchecked=no", "sh", "-c", "echo $LD_PRELOAD"]
     expect(suite.run_argv([run, *say]).out, f"{os.path.realpath(used)}\n", "as it is installed")
     other = "/lib/x86_64-linux-gnu/libm.so.6"
     for before, after in (("", ""), (other, f":{other}")):

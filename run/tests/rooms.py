@@ -60,7 +60,8 @@ def check_replaced(suite: Suite, folder: str) -> None:
             os.makedirs(each, exist_ok=True)
         write_text(f"{other}/1.trace", "no trace")
         line = f"it=${{ASANCOL_HUB%/*}}; mv $it $it.x; {put}; {suite.program} sound"
-        expect_ran(suite.run("--", "sh", "-c", line, TMPDIR=room), 98, why, "2 processes, 2 events", absent=["1.trace"])
+        expect_ran(suite.run("--unchecked=no", "sh", "-c", line, TMPDIR=room), 98, why, "2 processes, 2 events",
+                   absent=["1.trace"])
         left = sorted(os.path.relpath(it, folder) for it in glob.glob(f"{folder}/*/*/*") + glob.glob(f"{other}/*"))
         expect([os.path.basename(it) for it in left][-1:], ["1.trace"], "what stays of the other folder")
         expect([it for it in left if ".x" in it], [], "what stays of the run's")

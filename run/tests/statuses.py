@@ -4,7 +4,7 @@ import os
 import re
 from typing import Dict, List, Tuple
 
-from support import REPORT, TESTS, Failure, Suite, expect, expect_ran
+from support import REPORT, TESTS, Failure, Suite, expect, expect_in, expect_ran
 
 # A run, by the words after asancol-run, in which PROGRAM stands for the recorded program: its status, and texts that
 # are on standard error. A text after a `!` is not there.
@@ -294,6 +294,7 @@ def check_environment(suite: Suite, folder: str) -> None:
     expect(hub.startswith("/"), True, "an absolute name")
     expect(after.pop("ASANCOL_LEAKS"), "1", "leaks are looked for")
     expect(re.fullmatch(r"\d+:\d+", after.pop("ASANCOL_TEXT")) is not None, True, "where the text goes")
+    expect_in(after.pop("LD_PRELOAD"), "libasancol_before_libasan.so")
     for name in ("ASANCOL_TRACE", "ASANCOL_SOCKET"):
         del before[name]
     expect(after, before, "environment")

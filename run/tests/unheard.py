@@ -369,9 +369,9 @@ def check_recorded_parent(suite: Suite, folder: str) -> None:
         for name in ("resolves", "needs"):
             ran = suite.run("--", "./parent", way, f"{folder}/{name}", cwd=folder)
             expect_ran(ran, 98, f"{folder}/{name}: {NEVER}", "; 1 INCOMPLETE")
-        for name in ("good", "plain"):
+        for name, text in (("good", "; all complete\n"), ("plain", "; not checked: 1 program: plain (not built")):
             ran = suite.run("--", "./parent", way, f"./{name}", cwd=folder)
-            expect_ran(ran, 0, "all complete")
+            expect_ran(ran, 0, text)
     expect_ran(suite.run("--", "./parent", "exec", "./script", cwd=folder), 98, f"./script: {NEVER}, by SIGSEGV")
     expect_ran(suite.run("--", "./parent", "exec", "./needs", cwd=folder), 98, f"./needs: {NEVER}, with status 127")
     ran = suite.run("--", "./parent", "spawnp", "resolves", cwd=folder, PATH=f"/none:{folder}:{os.environ['PATH']}")
@@ -429,8 +429,8 @@ def check_lost_mark(suite: Suite, folder: str) -> None:
     odd = shutil.copy(shutil.which("sh") or "", f"{folder}/a) S 1 (")
     line = f"{lost}; python3 -c '{UNMARKED}' env -i {lost} b; true"
     for shell in ([odd, "-c", line], ["env", "A=", "sh", "-c", f"env -i '{odd}' -c \"{line}\"; true"]):
-        ran = suite.run("--leaks=no", "--", *shell, ASANCOL_REPORT=REPORT)
-        expect_ran(ran, 99, "1 report at 1 place; 2 processes, ", "all complete")
+        ran = suite.run("--leaks=no", "--unchecked=no", "--", *shell, ASANCOL_REPORT=REPORT)
+        expect_ran(ran, 99, "1 report at 1 place; 2 processes, ", " events; all complete")
 
 
 def check_other_places(suite: Suite, folder: str) -> None:
