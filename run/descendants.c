@@ -269,7 +269,7 @@ static enum kinship follow(pid_t number)
 
 enum kinship descendants_kinship(pid_t number)
 {
-    pid_t there = number_there(number);
+    pid_t there = self != 0 ? number_there(number) : 0;
     if (there == 0)
         return KINSHIP_UNKNOWN;
     /* If a parent has ended meanwhile, the child has another one. */

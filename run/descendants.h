@@ -1,7 +1,8 @@
 /* What the command has started: of its descendants, each whose parent ends becomes a child of asancol-run.
 
-   Called: descendants_left and descendants_signal by loop.c, descendants_kinship and descendants_have_user by peers.c,
-   the rest by asancol-run.c before the command starts; in the one thread of asancol-run; no lock. */
+   Called: descendants_left and descendants_signal by loop.c, descendants_kinship by peers.c and signals.c,
+   descendants_have_user by peers.c, the rest by asancol-run.c before the command starts; in the one thread of
+   asancol-run; no lock. */
 #ifndef ASANCOL_RUN_DESCENDANTS_H
 #define ASANCOL_RUN_DESCENDANTS_H
 
@@ -16,7 +17,7 @@ void descendants_adopt(void);
 void descendants_are_of(pid_t number);
 /* Whether one is left. */
 bool descendants_left(void);
-/* Whether this process is one of them. Of one that is gone nobody knows. */
+/* Whether this process is one of them. Of one that is gone nobody knows, nor of any if no command was started. */
 enum kinship { KINSHIP_NONE, KINSHIP_OURS, KINSHIP_UNKNOWN };
 enum kinship descendants_kinship(pid_t number);
 /* Whether one that runs is of this user. */

@@ -5,6 +5,7 @@
 #include <errno.h>
 #include <signal.h>
 #include <stddef.h>
+#include <stdint.h>
 #include <string.h>
 #include <sys/prctl.h>
 #include <sys/resource.h>
@@ -12,9 +13,12 @@
 #include <unistd.h>
 
 #include "common/array.h"
+#include "descendants.h"
 #include "say.h"
 
-static const int passed_on[] = {SIGINT, SIGTERM, SIGHUP, SIGQUIT, SIGUSR1, SIGUSR2};
+/* And those of real time. The rest is for asancol-run itself: faults, limits, and stops. */
+static const int passed_on[] = {SIGINT,    SIGTERM, SIGHUP, SIGQUIT, SIGUSR1,   SIGUSR2, SIGABRT, SIGALRM,
+                                SIGVTALRM, SIGPROF, SIGIO,  SIGPWR,  SIGSTKFLT, SIGURG,  SIGWINCH};
 /* Of the terminal's stops only this one is for a foreground process. */
 static const int others[] = {SIGCHLD, SIGTSTP, SIGCONT};
 
@@ -29,13 +33,21 @@ static void add_unless_ignored(sigset_t *set, int number)
         sigaddset(set, number);
 }
 
+static bool is_passed_on(int number)
+{
+    for (size_t i = 0; i < COUNT(passed_on); i++)
+        if (passed_on[i] == number)
+            return true;
+    return number >= SIGRTMIN && number <= SIGRTMAX;
+}
+
 /* Gives all of ours the same action. While they are blocked they are read all the same. */
 static void set_ours(void (*handler)(int))
 {
     struct sigaction action = {.sa_handler = handler};
-    for (size_t i = 0; i < COUNT(passed_on); i++)
-        if (sigismember(&ours, passed_on[i]))
-            sigaction(passed_on[i], &action, NULL);
+    for (int number = 1; number <= SIGRTMAX; number++)
+        if (sigismember(&ours, number))
+            sigaction(number, &action, NULL);
 }
 
 int signals_open(void)
@@ -44,8 +56,9 @@ int signals_open(void)
     struct sigaction usual = {.sa_handler = SIG_DFL};
     sigaction(SIGCHLD, &usual, &child_before); /* if it is ignored, children vanish without their status */
     sigemptyset(&ours);
-    for (size_t i = 0; i < COUNT(passed_on); i++)
-        add_unless_ignored(&ours, passed_on[i]);
+    for (int number = 1; number <= SIGRTMAX; number++)
+        if (is_passed_on(number))
+            add_unless_ignored(&ours, number);
     blocked = ours;
     for (size_t i = 0; i < COUNT(others); i++)
         add_unless_ignored(&blocked, others[i]);
@@ -84,21 +97,41 @@ static void stop(void)
     sigprocmask(SIG_BLOCK, &set, NULL);
 }
 
+/* Whether the command has it too. A timer that was set before our start is for the command, but is ours. */
+static bool is_of_terminal(const struct signalfd_siginfo *info)
+{
+    uint32_t number = info->ssi_signo;
+    return info->ssi_code == SI_KERNEL && number != SIGALRM && number != SIGVTALRM && number != SIGPROF;
+}
+
+/* Whether the command or one that it has started sent it: to a parent that would be another without us, or to the
+   process group, in which the command has it too. */
+static bool is_from_below(const struct signalfd_siginfo *info)
+{
+    return descendants_kinship((pid_t)info->ssi_pid) == KINSHIP_OURS;
+}
+
+/* Whether one without a handler ends a process. */
+static bool ends(int number)
+{
+    return number != SIGCONT && number != SIGURG && number != SIGWINCH;
+}
+
 int signals_read(int descriptor, pid_t command)
 {
     struct signalfd_siginfo info;
     int count = 0;
     while (read(descriptor, &info, sizeof info) == (ssize_t)sizeof info) {
         int number = (int)info.ssi_signo;
-        bool is_of_terminal = info.ssi_code == SI_KERNEL; /* the command has it too */
         if (number == SIGCHLD)
             continue;
-        if (command != 0 && !is_of_terminal)
+        bool is_below = is_from_below(&info);
+        if (command != 0 && !is_of_terminal(&info) && !is_below)
             kill(command, number);
         if (number == SIGTSTP)
             stop();
-        else if (number != SIGCONT)
-            count++;
+        else
+            count += !is_below && ends(number);
     }
     return count;
 }

@@ -16,8 +16,8 @@ void signals_restore(void);
 /* A pipe without a reader, and a file that may not grow, are errors from now on, and no end: of a checker too, which
    can't ask for that itself. */
 void signals_ignore_writes(void);
-/* Reads all that have come, and passes them on to the command, if it is not 0. Answers how many have come that want an
-   end. */
+/* Reads all that have come, and passes those from elsewhere on to the command, if it is not 0. Answers how many have
+   come from elsewhere that want an end. */
 int signals_read(int descriptor, pid_t command);
 /* Ends this process by a signal, without a core. */
 void signals_end_by(int number);

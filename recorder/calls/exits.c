@@ -11,6 +11,7 @@
 #include <fcntl.h>
 #include <linux/sched.h>
 #include <linux/seccomp.h>
+#include <signal.h>
 #include <stdarg.h>
 #include <stdlib.h>
 #include <sys/prctl.h>
@@ -172,6 +173,15 @@ static bool copies_process(uint64_t flags)
     return (flags & (CLONE_VM | CLONE_FILES | CLONE_SETTLS)) == 0;
 }
 
+/* Whether the C library can write there, above the child's stack, what the child is to do. A fault is to come while no
+   lock is held: the program may handle it. */
+static bool is_writable(void *stack)
+{
+    enum { WRITTEN = 16 };
+    uintptr_t top = (uintptr_t)stack / WRITTEN * WRITTEN - WRITTEN;
+    return system_sigprocmask(SIG_BLOCK, NULL, (uint64_t *)top) == 0;
+}
+
 /* What the child of clone is to do. */
 struct beginning {
     int (*function)(void *);
@@ -195,7 +205,7 @@ CHECK int checked_clone(int (*function)(void *), void *stack, int flags, void *a
     va_start(rest, argument);
     void *parent_number = va_arg(rest, void *), *tls = va_arg(rest, void *), *number = va_arg(rest, void *);
     va_end(rest);
-    if (function == NULL || stack == NULL || !copies_process((unsigned)flags))
+    if (function == NULL || stack == NULL || !copies_process((unsigned)flags) || !is_writable(stack))
         return real_clone(function, stack, flags, argument, parent_number, tls, number);
     struct beginning beginning = {function, argument};
     note_fork_begins();

@@ -32,6 +32,7 @@ KNOWN: Dict[str, Tuple[Sequence[str], str]] = {
     "handler_stack_refused": (IN_A_RUN, "each thread has a handler stack of the recorder's"),
     "traced_child": (IN_A_RUN, "a tracer sees a signal that ends the process twice"),
     "pending_bus_error": (EVERYWHERE, "the recorder lets a SIGBUS through, which a store into a cut file causes"),
+    "heap_at_break": (EVERYWHERE, "malloc takes its memory elsewhere"),
     "large_maps": (EVERYWHERE, "the shadow leaves no room for 64 TB"),
     "proc_environment": (["recorded", "preloaded"], "LD_PRELOAD is set"),
     "first_of_environment": (["recorded", "preloaded"], "LD_PRELOAD is set"),

@@ -122,6 +122,33 @@ def check_signal(suite: Suite, folder: str, number: int, way: str, status: int, 
     expect_ran(finish(started), status, text, "all complete")
 
 
+# Each would end asancol-run, and the last only comes to nobody.
+SENT_FROM_BELOW = [signal.SIGTERM, signal.SIGALRM, signal.SIGABRT, signal.SIGIO, signal.SIGRTMIN + 3, signal.SIGWINCH]
+
+
+def check_signals_from_below(suite: Suite, folder: str) -> None:
+    """An orphan's signal to its parent, process 1 without us, neither ends the run nor comes to the command."""
+    for number in SENT_FROM_BELOW:
+        ran = suite.run("-v", "--", suite.program, "tells_parent", str(int(number)))
+        expect_ran(ran, 3, "3 processes", "all complete", absent=["ended by"])
+
+
+def check_signal_to_own_group(suite: Suite, folder: str) -> None:
+    """What the command sends to its process group, in which asancol-run is too, comes once."""
+    for number in (signal.SIGUSR1, signal.SIGALRM, signal.SIGRTMIN + 3, signal.SIGWINCH):
+        started = Started([RUN, "--", suite.program, "tells_group", str(int(number))], env=suite.environment(),
+                          text=True, preexec_fn=os.setpgrp, stdout=subprocess.PIPE, stderr=subprocess.PIPE)
+        expect_ran(finish(started), 1, "1 process", "all complete")
+
+
+def check_alarm_before(suite: Suite, folder: str) -> None:
+    """A timer that was set before ends the command, as in a program that is run in place of the one that set it."""
+    argv = [RUN, "-v", "--", suite.program, "sleeps", "30"]
+    started = Started(argv, env=suite.environment(), text=True, preexec_fn=lambda: signal.alarm(1) and None,
+                      stdout=subprocess.PIPE, stderr=subprocess.PIPE)
+    expect_ran(finish(started), -signal.SIGALRM, "ended by SIGALRM", "all complete")
+
+
 def check_timeout_program(suite: Suite, folder: str) -> None:
     """As under timeout(1)."""
     ran = suite.run_argv(["timeout", "0.7", RUN, "--", suite.program, "sleeps", "30"])
@@ -365,11 +392,15 @@ def tests(suite: Suite) -> None:
     suite.test("checker is killed", check_killed_checker)
     suite.test("huge pages", check_huge_pages)
     suite.test("SIGTERM with a report", check_term_during_report)
-    for number in (signal.SIGINT, signal.SIGTERM, signal.SIGHUP, signal.SIGQUIT, signal.SIGUSR1, signal.SIGUSR2):
-        text = f"ended by {signal.Signals(number).name}"
+    for number in (signal.SIGINT, signal.SIGTERM, signal.SIGHUP, signal.SIGQUIT, signal.SIGUSR1, signal.SIGUSR2,
+                   signal.SIGALRM, signal.SIGPROF, signal.SIGPWR, signal.SIGRTMIN):
+        text = f"ended by {'signal 34' if number == signal.SIGRTMIN else number.name}"
         suite.test(f"passes on {number.name}", check_signal, number, "sleeps", -number, text)
     suite.test("handled SIGTERM", check_signal, signal.SIGTERM, "handles", 3, "complete")
     suite.test("handled SIGUSR1", check_signal, signal.SIGUSR1, "handles", 3, "complete")
+    suite.test("signals from below", check_signals_from_below)
+    suite.test("signal to its own group", check_signal_to_own_group)
+    suite.test("alarm set before", check_alarm_before)
     suite.test("timeout(1)", check_timeout_program)
     suite.test("ignored signals", check_ignored_signals)
     suite.test("ignored SIGCHLD", check_child_signal_ignored)

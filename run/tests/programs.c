@@ -176,6 +176,45 @@ static int kills_itself(char **argv)
     return raise(atoi(argv[0]));
 }
 
+static volatile sig_atomic_t seen;
+
+static void see(int number)
+{
+    (void)number;
+    seen++;
+}
+
+/* How often a signal comes that goes once to the process group, as the status. */
+static int tells_group(char **argv)
+{
+    int number = atoi(argv[0]);
+    double left = 0.4;
+    signal(number, see);
+    kill(0, number);
+    while (usleep((useconds_t)(left * 1e6)) != 0) /* cut short by a second one */
+        left /= 2;
+    return seen;
+}
+
+/* An orphan sends a signal to whoever has become its parent; process 1 is nobody's. */
+static int tells_parent(char **argv)
+{
+    pid_t command = getpid(), child = fork();
+    if (child == 0) {
+        pid_t parent = getpid();
+        if (fork() != 0)
+            _exit(0);
+        while (getppid() == parent)
+            usleep(1000);
+        if (getppid() > 1 && getppid() != command)
+            kill(getppid(), atoi(argv[0]));
+        _exit(0);
+    }
+    waitpid(child, NULL, 0);
+    nap("0.4");
+    return 3;
+}
+
 /* Whether standard input, output and error are open, as the status: 1, 2 and 4. */
 static int open_ones(char **argv)
 {
@@ -195,7 +234,7 @@ static const struct {
     {"aborts", aborts}, {"execs", execs}, {"many", many},
     {"sleeps", sleeps}, {"past_and_sleeps", past_and_sleeps}, {"orphan", orphan}, {"daemon", becomes_daemon},
     {"handles", handles}, {"ignores", ignores}, {"kills_itself", kills_itself},
-    {"crashes", crashes}, {"open_ones", open_ones},
+    {"crashes", crashes}, {"open_ones", open_ones}, {"tells_group", tells_group}, {"tells_parent", tells_parent},
 };
 
 int main(int count, char **argv)

@@ -65,6 +65,13 @@ SITUATION(large_maps)
     }
 }
 
+SITUATION(heap_at_break)
+{
+    int ends[2];
+    free(malloc(100));
+    say("%d %zd", pipe(ends), write(ends[1], (char *)sbrk(0) - 4096, 1));
+}
+
 SITUATION(maps_changed)
 {
     char *at = pages(8);

@@ -255,6 +255,30 @@ SITUATION(clones)
     TELL(wait(NULL));
 }
 
+static void leave_by_fault(int number)
+{
+    say("signal %d", number);
+    _exit(14);
+}
+
+/* The C library writes to the child's stack before its system call. */
+SITUATION(clones_without_stack)
+{
+    char *page = mmap(NULL, 4096, PROT_READ, MAP_PRIVATE | MAP_ANONYMOUS, -1, 0);
+    TELL(clone(NULL, page, SIGCHLD, NULL));
+    TELL(clone(child_says, NULL, SIGCHLD, NULL));
+    pid_t child = fork();
+    if (child == 0) {
+        signal(SIGSEGV, leave_by_fault);
+        exit(clone(child_says, page + 4096, SIGCHLD, NULL));
+    }
+    say_end("handled", child);
+    child = fork();
+    if (child == 0)
+        exit(clone(child_says, page + 4096, SIGCHLD, NULL));
+    say_end("not handled", child);
+}
+
 static void spawn(const char *what, const char *path, char *const *argv, posix_spawn_file_actions_t *actions,
                   posix_spawnattr_t *attributes)
 {
