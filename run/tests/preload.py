@@ -165,9 +165,9 @@ def check_python(suite: Suite, folder: str, compiler: str) -> None:
     made = suite.run_argv([python, "setup.py", "-q", "build_ext", "--inplace"], cwd=folder, CC=CC,
                            ASANCOL_CC=compiler, CFLAGS="-g")
     expect(made.status, 0, made.err)
-    for allocator in ("", "malloc"):
+    for allocator, leaks in (("", "no"), ("malloc", "yes")):
         settings = {"PYTHONMALLOC": allocator} if allocator else {}
-        argv = ["--preload", "--", python, "-m", "unittest"]
+        argv = ["--preload", f"--leaks={leaks}", "--", python, "-m", "unittest"]
         ran = suite.run(*argv, cwd=folder, ASANCOL_REPORT=REPORT, **settings)
         expect_ran(ran, 0, "asancol: no reports; ", "not checked: ", absent=["INCOMPLETE"])
         ran = suite.run(*argv, cwd=folder, ASANCOL_REPORT=REPORT, MORE="0", **settings)
