@@ -9,6 +9,7 @@
 #include "base/memory.h"
 #include "base/own_zeros.h"
 #include "base/platform.h"
+#include "environment/startup.h"
 #include "libc/library.h"
 #include "heap/blocks.h"
 #include "heap/heap.h"
@@ -215,6 +216,7 @@ void roots_mark(uintptr_t frame)
     seen.control_size = library_control_size();
     mark_modules();
     mark_stack(&own_stack, frame, world_own_control());
+    mark_up_to_gap((uintptr_t)startup.argv, startup.end); /* programs put their own words in its place */
     mark_local(world_own_control());
     world_visit(mark_thread);
     fake_each_frame(mark_range);

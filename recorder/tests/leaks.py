@@ -279,6 +279,26 @@ def check_order(suite: Suite, folder: str, compiler: Compiler) -> None:
         expect((found, len(found)), (sorted(found), 20), "as they stand")
 
 
+ARGUMENTS = """
+#include <stdlib.h>
+#include <string.h>
+extern char **environ;
+int main(int count, char **argv) {
+    for (int i = 1; i < count; i++) argv[i] = strdup(argv[i]);
+    for (int i = 0; environ[i] != NULL; i++) environ[i] = strdup(environ[i]);
+    return 0; }
+"""
+
+
+def check_arguments(suite: Suite, folder: str, compiler: Compiler) -> None:
+    """In place of the arguments and the variables, which lie on several pages, blocks are in use: as setproctitle puts
+    them there."""
+    many = [f"word {i}" for i in range(900)]
+    write(folder, arguments_c=ARGUMENTS)
+    compiler.c(folder, ["arguments.c"], "arguments", "-O1", "-w")
+    expect(recorded(folder, "./arguments", *many), NOTHING, "lost blocks")
+
+
 def check_debugger(suite: Suite, folder: str, compiler: Compiler) -> None:
     """Threads stop, and go on, in a debugger, which says nothing of it."""
     if not shutil.which("gdb"):
@@ -384,6 +404,7 @@ def tests(suite: Suite, compiler: Compiler) -> None:
             suite.test(f"{compiler} leaks {name}", check_way, compiler, program, sanitized, name)
     for name, check in (("of threads that work", check_stress), ("while users change", check_users),
                         ("at each end", check_ends), ("of a static program", check_static), ("in order", check_order),
-                        ("in a debugger", check_debugger), ("that a frame alone leads to", check_frames),
+                        ("in the arguments", check_arguments), ("in a debugger", check_debugger),
+                        ("that a frame alone leads to", check_frames),
                         ("if a thread does not stop", check_stuck)):
         suite.test(f"{compiler} leaks {name}", check, compiler)
