@@ -201,7 +201,7 @@ enum { USUAL_CONTROL_SIZE = 1856 };
 enum { FRAME_POINTER = 29, STACK_POINTER = 31, RETURN_ADDRESS = 30 };
 #define STUB_EXPRESSION {0}
 enum { STUB_BYTES = 16, STUB_HAS_NUMBER = 16 };
-enum { STORED_FRAME = 544, STORED_LINK = 552, STORED_STACK = 560, STORED_INSTRUCTION = 568 };
+enum { STORED_FIRST = 312, STORED_FRAME = 544, STORED_LINK = 552, STORED_STACK = 560, STORED_INSTRUCTION = 568 };
 
 /* The address after a call may be in a register, and its upper bits may be a signature. */
 #define HAS_LINK_REGISTER 1
@@ -242,9 +242,10 @@ static inline bool processor_jumps(const unsigned char code[JUMP_CODE])
 }
 
 /* What a handler returns to, which some emulators do not describe: a call of the system. */
-static inline bool processor_ends_handler(const uint32_t words[2])
+enum { END_OF_HANDLER_BYTES = 8 };
+static inline bool processor_ends_handler(const unsigned char code[END_OF_HANDLER_BYTES])
 {
-    return words[0] == 0xd2801168 && words[1] == 0xd4000001;
+    return __builtin_memcmp(code, "\x68\x11\x80\xd2\x01\x00\x00\xd4", END_OF_HANDLER_BYTES) == 0;
 }
 
 enum {

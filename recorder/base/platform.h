@@ -28,6 +28,8 @@
 #define STAYS_IN_ORDER __asm__ volatile("" : : : "memory")
 /* The same, and nobody knows where this may lead. */
 #define STAYS_AT(place) __asm__ volatile("" : : "r"(place) : "memory")
+/* This is in a register or on the stack up to here. */
+#define STAYS_KNOWN(value) __asm__ volatile("" : : "rm"(value))
 /* A text for the assembler outside of functions; and in one what it writes of the frame. */
 #define TOP_ASM __asm__
 #define DESCRIBE __asm__ volatile

@@ -209,7 +209,7 @@ enum { FRAME_POINTER = 6, STACK_POINTER = 7, RETURN_ADDRESS = 16 };
 #define STUB_EXPRESSION {0x77, 8, 0x80, 0, 0x3f, 0x1a, 0x3b, 0x2a, 0x33, 0x24, 0x22}
 enum { STUB_BYTES = 16, STUB_HAS_NUMBER = 11 };
 /* The system has stored these for the end of a handler, above the stack pointer. */
-enum { STORED_FRAME = 120, STORED_STACK = 160, STORED_INSTRUCTION = 168 };
+enum { STORED_FIRST = 40, STORED_FRAME = 120, STORED_STACK = 160, STORED_INSTRUCTION = 168 };
 /* The address after a call lies below the end of a frame, and nothing else is in it. */
 #define HAS_LINK_REGISTER 0
 #define LINK_REGISTER
@@ -247,6 +247,13 @@ static inline bool processor_ends_call(const unsigned char code[LONGEST_CALL])
             return true;
     }
     return false;
+}
+
+/* What a handler returns to, which the recorder's own does not describe: a call of the system. */
+enum { END_OF_HANDLER_BYTES = 9 };
+static inline bool processor_ends_handler(const unsigned char code[END_OF_HANDLER_BYTES])
+{
+    return __builtin_memcmp(code, "\x48\xc7\xc0\x0f\x00\x00\x00\x0f\x05", END_OF_HANDLER_BYTES) == 0;
 }
 
 /* Whether code jumps by itself, as for __builtin_longjmp: it loads the stack pointer, and goes to a register soon. */

@@ -48,20 +48,16 @@ static bool follows_call(uintptr_t address)
     return processor_ends_call(code);
 }
 
-#if HAS_LINK_REGISTER
-
 /* Whether the system has called the handler that returns here. */
 static bool ends_handler(uintptr_t address)
 {
     struct known_page page = {0};
-    uint32_t words[2];
-    if (address % sizeof *words != 0 || !memory_is_there(&page, address, sizeof words))
+    unsigned char code[END_OF_HANDLER_BYTES];
+    if (!memory_is_there(&page, address, sizeof code))
         return false;
-    __builtin_memcpy(words, (const void *)address, sizeof words);
-    return processor_ends_handler(words);
+    __builtin_memcpy(code, (const void *)address, sizeof code);
+    return processor_ends_handler(code);
 }
-
-#endif
 
 /* Code that lies together has places that do. */
 static inline size_t place_of_rule(uintptr_t instruction)
@@ -89,10 +85,8 @@ static __attribute__((noinline)) struct cfi_rule find_rule(uintptr_t instruction
             place = first ^ i;
     }
     found.rule = cfi_find(is_after_call ? instruction - 1 : instruction);
-#if HAS_LINK_REGISTER
     if (found.rule.kind == CFI_UNKNOWN && ends_handler(instruction))
         found.rule.kind = CFI_SIGNAL;
-#endif
     if (!is_after_call || found.rule.kind == CFI_SIGNAL || follows_call(instruction))
         found.rule.flags |= CFI_CALLED;
     atomic_store_explicit(&rules[place].rule, found.word, memory_order_relaxed);
@@ -529,6 +523,13 @@ static bool is_on_another(const struct step *step)
            || is_on_own_stack(step->from) != is_on_own_stack(step->to);
 }
 
+/* The registers of the caller of this frame of the recorder's. */
+static struct registers above_frame(uintptr_t frame, uint64_t now)
+{
+    struct pair pair = {word_above(frame, 0), CODE_ADDRESS(word_above(frame, 1))};
+    return after_return(frame, pair, 0, now);
+}
+
 static void end_piece(struct frames_between *found, uintptr_t top)
 {
     found->pieces[found->count++].top = top;
@@ -542,8 +543,7 @@ bool unwind_to(uintptr_t frame, uintptr_t target, struct frames_between *found)
     struct reach reach = {.keeping = &keeping};
     struct step step;
     uint64_t now = atomic_load_explicit(&rules_generation, memory_order_relaxed);
-    struct pair pair = {word_above(frame, 0), CODE_ADDRESS(word_above(frame, 1))};
-    struct registers at = after_return(frame, pair, 0, now);
+    struct registers at = above_frame(frame, now);
     bool is_after_call = true;
     *found = (struct frames_between){.pieces = {{.low = frame}}};
     for (unsigned i = 0; i < MOST_STEPS && step_up(&at, is_after_call, now, &reach, &step); i++) {
@@ -562,4 +562,22 @@ bool unwind_to(uintptr_t frame, uintptr_t target, struct frames_between *found)
     }
     end_piece(found, at.stack);
     return false;
+}
+
+unsigned unwind_to_handlers(uintptr_t frame, uintptr_t *stored, unsigned most)
+{
+    enum { MOST_STEPS = 1 << 10 };
+    struct keeping keeping = {.walks = NULL};
+    struct reach reach = {.keeping = &keeping};
+    struct step step;
+    uint64_t now = atomic_load_explicit(&rules_generation, memory_order_relaxed);
+    struct registers at = above_frame(frame, now);
+    bool is_after_call = true;
+    unsigned count = 0;
+    for (unsigned i = 0; i < MOST_STEPS && count < most && step_up(&at, is_after_call, now, &reach, &step); i++) {
+        is_after_call = step.rule.kind != CFI_SIGNAL;
+        if (!is_after_call)
+            stored[count++] = step.from;
+    }
+    return count;
 }

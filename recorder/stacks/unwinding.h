@@ -1,10 +1,11 @@
 /* The calls that have led somewhere: from frame to frame, by call frame information (cfi.h), and by frame pointers
    where a function has none. On any stack: what cannot be read ends it.
 
-   Called: unwind_from_call, unwind_end and unwind_from_registers by stacks.c, and unwind_to by process/threads.c, in
-   the thread whose stack it is, also in a handler, with or without locks. No lock here: `struct stack` is the caller's,
-   and a rule is written so that another thread takes no half of it (unwinding.c). unwinding_modules_changed by
-   process/plain.c and interface/hooks.c, in any thread, after a library was opened. */
+   Called: unwind_from_call, unwind_end and unwind_from_registers by stacks.c, unwind_to by process/threads.c, and
+   unwind_to_handlers by stream/own_place.c, in the thread whose stack it is, also in a handler, with or without locks.
+   No lock here: `struct stack` is the caller's, and a rule is written so that another thread takes no half of it
+   (unwinding.c). unwinding_modules_changed by process/plain.c and interface/hooks.c, in any thread, after a library was
+   opened. */
 #ifndef ASANCOL_UNWINDING_H
 #define ASANCOL_UNWINDING_H
 
@@ -59,6 +60,10 @@ struct frames_between {
 /* From a frame of the recorder's up to this stack pointer, of one of those that have called it. False: the way ends
    before, so it is on another stack, or is not known; or there is none to go to (0). */
 bool unwind_to(uintptr_t frame, uintptr_t target, struct frames_between *found);
+
+/* What the system has stored for the ends of the handlers in which this frame of the recorder's lies, the innermost
+   first, at most this many: where its STORED_ numbers count from. Answers how many there are. */
+unsigned unwind_to_handlers(uintptr_t frame, uintptr_t *stored, unsigned most);
 
 /* The notes on the code of modules may be outdated. */
 void unwinding_modules_changed(void);

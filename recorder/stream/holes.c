@@ -5,10 +5,11 @@
 
 #include "libc/library.h"
 #include "stream/locked.h"
+#include "stream/own_place.h"
 #include "stream/writing.h"
 
-/* How many records in a row may be missing. */
-enum { MAX_HOLES = 8 };
+/* How many records in a row may be missing; and how often to look whose place one has. */
+enum { MAX_HOLES = 8, LOOKS_EACH = 64 };
 
 /* Its thread may just write it. */
 static unsigned char byte_at(uint64_t offset)
@@ -21,10 +22,10 @@ static unsigned char code_at(uint64_t offset)
     return atomic_load_explicit((_Atomic unsigned char *)(STREAM->bytes + offset), memory_order_acquire);
 }
 
-/* Whether whole records begin here, as far as a few of them can say. Some accesses may be missing before them. */
-static bool looks_sound(uint64_t offset, uint64_t end)
+/* Whether whole records begin here, as far as a few of them can say. This many accesses may be missing before them. */
+static bool looks_sound(uint64_t offset, uint64_t end, int most_holes)
 {
-    for (int holes = 0; holes < MAX_HOLES && offset < end && code_at(offset) == CODE_NONE; holes++)
+    for (int holes = 0; holes < most_holes && offset < end && code_at(offset) == CODE_NONE; holes++)
         offset += ACCESS_LENGTH;
     for (int seen = 0; offset < end && seen < 8; seen++) {
         unsigned length = record_length(code_at(offset));
@@ -78,11 +79,11 @@ static bool claim(uint64_t offset, enum code code)
 
 /* A record that was begun and will never be written, as when a signal handler left by a jump: puts one there that says
    nothing. Answers its length, 0 where that can't be known, or if it was written now. */
-static unsigned fill_hole(uint64_t offset, uint64_t end)
+static unsigned fill_hole(uint64_t offset, uint64_t end, int most_holes)
 {
     for (unsigned i = 0; i < FILLERS; i++) {
         unsigned length = fillers[i].length;
-        if (offset + length > end || !looks_sound(offset + length, end))
+        if (offset + length > end || !looks_sound(offset + length, end, most_holes))
             continue;
         if (!claim(offset, fillers[i].code))
             return 0;
@@ -90,6 +91,14 @@ static unsigned fill_hole(uint64_t offset, uint64_t end)
         return length;
     }
     return 0;
+}
+
+/* The same if this is where this thread was interrupted, which would wait for itself. What others write just now is
+   waited for, since it says how long this is. */
+static unsigned fill_own(uint64_t end)
+{
+    uint64_t cursor = CURSOR_ON | locked.checked_events << 32 | locked.checked;
+    return own_place_is_at(STREAM->bytes + locked.checked, cursor) ? fill_hole(locked.checked, end, 0) : 0;
 }
 
 /* Moves `checked` over whole records, and fills holes. Answers how many these were. */
@@ -103,9 +112,13 @@ static unsigned go_over(uint64_t end, uint64_t limit, enum patience patience)
         unsigned length = LIKELY(code == CODE_LOAD || code == CODE_STORE) ? ACCESS_LENGTH : record_length(code);
         if (UNLIKELY(length == 0)) {
             /* With one thread there is nobody to wait for: a signal handler has left by a jump. */
-            if (!library_is_alone() && stream_waits_again(looks++, patience))
+            bool has_others = !library_is_alone();
+            if (has_others && patience != NONE && looks % LOOKS_EACH == 0)
+                length = fill_own(end);
+            if (length == 0 && has_others && stream_waits_again(looks++, patience))
                 continue;
-            length = patience != NONE ? fill_hole(locked.checked, end) : 0;
+            if (length == 0)
+                length = patience != NONE ? fill_hole(locked.checked, end, MAX_HOLES) : 0;
             if (length == 0 && record_length(code_at(locked.checked)) != 0)
                 continue;
             if (length == 0)

@@ -199,9 +199,10 @@ unsigned char *stream_reserve(unsigned length, bool is_of_heap)
             return NULL;
     }
     uint64_t cursor = stream_take(&STREAM->cursor, CURSOR_EVENT + length);
-    if (LIKELY(!stream_is_unusual(cursor, length)))
-        return STREAM->bytes + (uint32_t)cursor;
-    return stream_open_place(&cursor, length, is_of_heap);
+    unsigned char *at = LIKELY(!stream_is_unusual(cursor, length)) ? STREAM->bytes + (uint32_t)cursor
+                                                                     : stream_open_place(&cursor, length, is_of_heap);
+    STAYS_KNOWN(cursor); /* to own_place.c */
+    return at;
 }
 
 void record_access_slowly(uint64_t cursor, unsigned code_and_width, uint64_t address)

@@ -83,6 +83,7 @@ static inline void record_piece_of(enum code code, unsigned width, uint64_t addr
             record_access_slowly(cursor, code_and_width, address);
         else
             put_access(stream->bytes + (uint32_t)cursor, code_and_width, address);
+        STAYS_KNOWN(cursor); /* to own_place.c */
     }
     tell_if_bad(code, width, address, caller, whole);
     halt_if_bad(code, width, address, caller, whole);

@@ -2,11 +2,12 @@
 also one of AddressSanitizer's."""
 
 import os
+import platform
 import re
 from typing import List
 
 from hub import check, one  # what a hub gets
-from support import MARK, TESTS, Compiler, Later, Suite, expect, reports, run
+from support import MARK, TESTS, Compiler, Later, Suite, expect, leave_out, reports, run
 from testing.side import EXIT
 
 SOURCE = f"{TESTS}/ends.c"
@@ -62,7 +63,30 @@ def check_sanitizer(suite: Suite, folder: str, programs: str, name: str) -> None
     expect(b"heap-buffer-overflow" in ran.stderr, name not in SOUND, f"{name}: {ran.stderr.decode()}")
 
 
+# Steps from where a record has its place: up to its end, and some more.
+STEPS = (*range(26), *range(26, 301, 25))
+WAYS = {"exec": "closed", "_exit": "closed", "raise": ""}
+
+
+def check_interrupted(suite: Suite, folder: str, compiler: Compiler, way: str) -> None:
+    """A handler that has interrupted the writer of a record does not wait for that record at the end, at any step, as
+    it does for those of other threads by a thousand yields. A signal's end looks for a lock once."""
+    compiler.c(folder, [f"{TESTS}/stepped.c"], "stepped", native=True)
+    compiler.c(folder, [f"{TESTS}/interrupted.c"], "interrupted", "-w", "-pthread")
+    for steps in STEPS:
+        ran = run(["./stepped", str(steps), "./interrupted", way], folder, ASANCOL_TRACE=f"{folder}/t.trace")
+        if ran.returncode == 2:
+            leave_out(f"a handler at a step: {ran.stderr.decode().strip()}")
+            return
+        expect((int(ran.stdout) <= 1, ran.returncode), (True, 0), f"{steps} steps: {ran.stdout!r}")
+        _, texts, end = reports(suite.asancol, f"{folder}/t.trace")
+        expect((len(texts) >= 1, WAYS[way] in end), (True, True), f"{steps} steps: {end}")
+        os.unlink(f"{folder}/t.trace")
+
+
 def tests(suite: Suite, compiler: Compiler) -> None:
+    for way in WAYS if platform.machine() == "x86_64" else ():
+        suite.long_test(f"{compiler} ends by {way} in a handler inside a record", check_interrupted, compiler, way)
     programs = Later(f"{suite.folder}/{compiler}", build, compiler, suite.folder)
     for name in MOMENTS:
         suite.test(f"{compiler} ends {name}", check_file, programs, "ends", name)

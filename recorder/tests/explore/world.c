@@ -31,6 +31,7 @@
 #include "stream/findings.h"
 #include "stream/locked.h"
 #include "stream/opening.h"
+#include "stream/own_place.h"
 #include "stream/record.h"
 #include "stream/side.h"
 #include "stream/suspending.h"
@@ -157,6 +158,7 @@ void undisturbed_end(const struct disturbance *before)
     (void)before;
     explore_disturb(-1);
 }
+bool own_place_is_at(const unsigned char *address, uint64_t cursor) { return address == NULL && cursor == 0; }
 void hub_word_note(const char *hub, const char *why) { (void)hub, (void)why; }
 bool asan_options_check_call(const char *name) { return name != NULL; }
 void recorder_say(const char *what, const char *of, const char *why)
