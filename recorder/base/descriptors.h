@@ -3,9 +3,9 @@
 
    Some are kept. The program does not see these: its calls of the C library leave them out.
 
-   Called: descriptor_of_file by stream/side.c and modules.c, descriptor_of_socket and descriptor_of_message by
-   stream/output.c, with the stream's lock, or before there is a stream; descriptor_of_memory, and what moves,
-   keeps and drops one by that, by shadow/unused.c with the allocator's (central, or all), and by
+   Called: descriptor_of_file by stream/side.c, stream/modules.c and environment/hub_folder.c, descriptor_of_socket and
+   descriptor_of_message by stream/output.c, with the stream's lock, or before there is a stream; descriptor_of_memory,
+   and what moves, keeps and drops one, by shadow/unused.c with the allocator's (central, or all), and by
    process/run_connection.c at the start and the end: in any thread, also in a handler; descriptor_shown and
    descriptor_hidden_from by the checks of calls (interface/hooks.def), and the first by stream/sending.c, in any
    thread, also in a handler, with or without any lock. No lock here: each call restores the limit, and the numbers are
@@ -20,8 +20,8 @@
 int descriptor_of_file(const char *path, int flags);
 int descriptor_of_socket(int type);
 int descriptor_of_memory(const char *name, unsigned flags);
-/* The connection of the stream, the file of shadow/unused.c, and the way to an own run. */
-enum descriptor_kept { KEPT_STREAM, KEPT_UNUSED, KEPT_RUN, DESCRIPTORS_KEPT };
+/* The connection of the stream, the file of shadow/unused.c, the way to an own run, and the hub's folder. */
+enum descriptor_kept { KEPT_STREAM, KEPT_UNUSED, KEPT_RUN, KEPT_FOLDER, DESCRIPTORS_KEPT };
 /* Moves one that is to be kept out of the way of those that the process opens, and answers where it is now. */
 int descriptor_moved_up(int descriptor);
 /* Another one for the same file, with a greater number. */

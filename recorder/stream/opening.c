@@ -9,6 +9,7 @@
 #include "base/platform.h"
 #include "base/say.h"
 #include "base/system.h"
+#include "environment/hub_folder.h"
 #include "environment/stale_trace.h"
 #include "environment/hub_word.h"
 #include "stream/faults.h"
@@ -57,6 +58,7 @@ const char *opening_hub(const struct settings *settings)
     const char *why = output_connect(&locked.trace, settings->hub, true, window, settings->patience_ms);
     if (why != NULL)
         return why;
+    hub_folder_keep(settings->hub);
     memcpy(locked.trace.bytes, HEADER, HEADER_LENGTH);
     window = windows_of_side(locked.window);
     const char *why_not = output_open_memory(&locked.side, window, &locked.trace, settings->patience_ms);

@@ -18,6 +18,7 @@
 #include "base/errors.h"
 #include "common/format.h"
 #include "environment/asking.h"
+#include "environment/hub_folder.h"
 #include "environment/hub_names.h"
 #include "base/platform.h"
 #include "base/system.h"
@@ -207,6 +208,8 @@ const char *output_connect(struct output *output, const char *path, bool has_abs
         if (is_trusted(descriptor))
             return take_pieces(output, descriptor, window);
         why = "its name is another user's";
+    } else if (has_abstract && hub_folder_connect(descriptor, path, &patience_ms) == 0) {
+        return take_pieces(output, descriptor, window);
     }
     system_close(descriptor);
     return why;

@@ -1,6 +1,7 @@
 """Programs that shut themselves off: with filters of system calls, and in children that they make as sandboxes do."""
 
 import itertools
+import os
 from typing import Iterator, List, Tuple
 
 from own_runs import run_alone
@@ -174,7 +175,65 @@ def check_children(suite: Suite, folder: str, compiler: str) -> None:
     expect_ran(run_alone(suite, program, "nothing"), 99, "1 report at 1 place; 1 process, ")
 
 
+# As bubblewrap: nothing leads from the new root and the new network to the run.
+BOXED = """
+#define _GNU_SOURCE
+#include <fcntl.h>
+#include <pthread.h>
+#include <sched.h>
+#include <stdlib.h>
+#include <string.h>
+#include <sys/mount.h>
+#include <sys/stat.h>
+#include <sys/syscall.h>
+#include <sys/wait.h>
+#include <unistd.h>
+static __attribute__((noinline)) void past(void) {
+    volatile char *volatile block = malloc(8);
+    block[8] = 1;
+    free((void *)block); }
+static void tell(const char *name, const char *text) {
+    int file = open(name, O_WRONLY);
+    if (file >= 0) { write(file, text, strlen(text)); close(file); } }
+int main(int count, char **argv) {
+    int flags = CLONE_NEWNS | CLONE_NEWNET | CLONE_NEWPID | (geteuid() != 0 ? CLONE_NEWUSER : 0), status = 0;
+    char place[100];
+    if (unshare(flags) != 0) return 9;
+    if (flags & CLONE_NEWUSER) tell("/proc/self/uid_map", "0 1000 1\\n");
+    if (mount(NULL, "/", NULL, MS_REC | MS_PRIVATE, NULL) != 0 || mount("none", argv[1], "tmpfs", 0, NULL) != 0)
+        return 9;
+    if (chdir(argv[1]) != 0 || mkdir("in", 0700) != 0 || mkdir("proc", 0700) != 0) return 8;
+    if (count > 2 && mount("/proc", "proc", NULL, MS_BIND | MS_REC, NULL) != 0) return 9;
+    if (syscall(SYS_pivot_root, ".", ".") != 0 || umount2(".", MNT_DETACH) != 0 || chdir("/in") != 0) return 8;
+    if (fork() == 0) {
+        if (fork() == 0) { past(); _exit(0); }
+        wait(&status);
+        _exit(status != 0 || getcwd(place, sizeof place) == NULL || strcmp(place, "/in") != 0); }
+    wait(&status);
+    return status != 0 ? 7 : 0; }
+"""
+
+
+def check_boxed(suite: Suite, folder: str, compiler: str) -> None:
+    """Children in another root and another network are recorded, and their current folder stays, with /proc and without
+    it. So is one that goes on in a further segment."""
+    write_text(f"{folder}/b.c", BOXED)
+    os.mkdir(f"{folder}/root")
+    call([CC, "-g", "-w", "b.c", "-o", "b"], cwd=folder, env=suite.environment(ASANCOL_CC=compiler), check=True)
+    argv = [f"{folder}/b", f"{folder}/root"]
+    for words in ((), ("proc",)):
+        ran = suite.run("--leaks=no", "--", *argv, *words, ASANCOL_REPORT=REPORT)
+        if ran.status == 9:
+            leave_out("children in another root: the system makes none")
+            return
+        expect_ran(ran, 99, "1 report at 1 place; 3 processes, ", "all complete", " in past ")
+    ran = suite.run("--full", "--leaks=no", "--", *argv, ASANCOL_REPORT=REPORT, ASANCOL_LIMIT="4")
+    expect_ran(ran, 99, "1 report at 1 place; 3 processes, ", "all complete")
+    expect_ran(run_alone(suite, *argv, ASAN_OPTIONS="detect_leaks=0"), 99, "heap-buffer-overflow", "3 processes, ")
+
+
 def tests(suite: Suite) -> None:
     for compiler in compilers_there():
         suite.test(f"sandbox: filters, {compiler}", check_filters, compiler)
         suite.test(f"sandbox: children, {compiler}", check_children, compiler)
+        suite.test(f"sandbox: another root, {compiler}", check_boxed, compiler)
