@@ -104,6 +104,9 @@ def add_documents(root: str, version: str, maintainer: str, time: int) -> None:
     entry = f"asancol ({version}) unstable; urgency=low\n\n  * As changelog.gz says.\n\n -- {maintainer}  {date}\n"
     write_zipped(f"{folder}/changelog.Debian.gz", entry.encode())
     shutil.copy(f"{DEBIAN}/copyright", folder)
+    os.makedirs(f"{root}/usr/share/lintian/overrides")
+    # There are objects for 32-bit programs.
+    write(f"{root}/usr/share/lintian/overrides/asancol", "asancol: binary-from-other-architecture *for-i*86/*\n")
 
 
 def libraries_of(root: str) -> str:

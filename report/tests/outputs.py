@@ -57,6 +57,9 @@ def what_was_not_checked(folder: str) -> None:
         ("c", {"unchecked": ["u.o", "v.o"]}, " events; not checked: u.o, v.o\n"),
         ("d", both, " events; not checked: u.o and 7 more, and 1 library of the system\n"),
         ("e", {"system_more": 0}, " events; all complete\n"),
+        ("f", {"unrecorded": ["t/old"]}, " events; not checked: 1 program: t/old (not built with asancol-cc)\n"),
+        ("g", {"unrecorded": ["t/a", "t/old"], "unrecorded_more": 3, **both}, " events; not checked: u.o and 7 more, "
+         "5 programs: t/a, t/old and 3 more (not built with asancol-cc), and 1 library of the system\n"),
     ]
     for name, entry, text in runs:
         feed = Feed(folder, "--json", name)
@@ -64,7 +67,9 @@ def what_was_not_checked(folder: str) -> None:
         feed.process(0)
         expect_in(feed.end(**entry).out, text)
     for names, text in (("ab", "all complete; not checked: 3 libraries of the system\n"),
-                        ("abcde", " events; not checked: u.o, v.o and 7 more, and 3 libraries of the system\n")):
+                        ("abcde", " events; not checked: u.o, v.o and 7 more, and 3 libraries of the system\n"),
+                        ("cf", "; not checked: u.o, v.o, and 1 program: t/old (not built with asancol-cc)\n"),
+                        ("fg", "5 programs: t/a, t/old and 3 more (not built with asancol-cc), and 1 library of")):
         expect_in(report(folder, *names, "--json", "all").out, text)
         expect_in(report(folder, "all").out, text)
 
