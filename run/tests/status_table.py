@@ -2,6 +2,7 @@
 
 import os
 import re
+import shutil
 import signal
 from typing import Dict, List, NamedTuple, Sequence, Tuple
 
@@ -98,6 +99,9 @@ ROWS: Dict[str, List[Case]] = {
 }
 
 
+# AddressSanitizer refuses some of the layouts that the system draws for a process.
+AS_ALWAYS = ["setarch", "-R"] if shutil.which("setarch") else []
+
 # What a cell says, a command, and its settings.
 Way = Tuple[str, List[str], Dict[str, str]]
 
@@ -154,7 +158,7 @@ def check_case(suite: Suite, programs: Programs, cells: Sequence[str], number: i
     if not case.options:
         ways.append((alone, argv(programs.recorded), {"ASANCOL_RUN": RUN}))
         program = programs.recovering if "recover" in sanitizer else programs.sanitized
-        ways.append((sanitizer, argv(program), {}))
+        ways.append((sanitizer, [*AS_ALWAYS, *argv(program)], {}))
     wrong = []
     for cell, words, more in ways:
         if cell == "":
@@ -165,11 +169,13 @@ def check_case(suite: Suite, programs: Programs, cells: Sequence[str], number: i
     return wrong
 
 
-def check_table(suite: Suite, folder: str, compiler: str) -> None:
+def check_rows(suite: Suite, folder: str, compiler: str, have_options: bool) -> None:
+    """Goes through the rows that begin with an option, or through the others."""
     programs = build(folder, compiler)
     table = rows()
     expect([it[0] for it in table], list(ROWS), f"the rows of {PAGE}")
-    wrong = [it for cells in table for number, case in enumerate(ROWS[cells[0]])
+    chosen = [it for it in table if it[0].startswith(("`", "the same")) == have_options]
+    wrong = [it for cells in chosen for number, case in enumerate(ROWS[cells[0]])
              for it in check_case(suite, programs, cells, number, case)]
     expect(wrong, [], "what differs")
 
@@ -179,4 +185,5 @@ def tests(suite: Suite) -> None:
         leave_out("status table: ASAN_OPTIONS are those of asancol-run")
         return
     for compiler in compilers_there():
-        suite.test(f"status table: {compiler}", check_table, compiler)
+        suite.test(f"status table: {compiler}", check_rows, compiler, False)
+        suite.test(f"status table: {compiler}, options", check_rows, compiler, True)
