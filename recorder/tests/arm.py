@@ -106,7 +106,7 @@ def check_bug(suite: Suite, folder: str, program: str, sanitized: str, word: str
     """The class, the function and the line are those that AddressSanitizer says, and the stack begins in `main`."""
     kind, function = BUGS[word]
     line = line_of({"in_thread": "thread", "on_signal": "handler"}.get(function, function))
-    ran = run([RUN, "--", *QEMU, program, word], folder, ASANCOL=suite.asancol)
+    ran = run([RUN, "--leaks=no", "--", *QEMU, program, word], folder, ASANCOL=suite.asancol)
     text = ran.stderr.decode()
     expect((first_of(BY_ASANCOL, text), ran.returncode), (Said(kind, function, line), 99), text)
     expect(text.count("ERROR: asancol"), 1, text)
