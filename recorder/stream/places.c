@@ -200,7 +200,7 @@ unsigned char *stream_reserve(unsigned length, bool is_of_heap)
     }
     uint64_t cursor = stream_take(&STREAM->cursor, CURSOR_EVENT + length);
     unsigned char *at = LIKELY(!stream_is_unusual(cursor, length)) ? STREAM->bytes + (uint32_t)cursor
-                                                                     : stream_open_place(&cursor, length, is_of_heap);
+                                                                   : stream_open_place(&cursor, length, is_of_heap);
     STAYS_KNOWN(cursor); /* to own_place.c */
     return at;
 }

@@ -78,7 +78,7 @@ static unsigned count_yields(pid_t child)
     struct user_regs_struct registers;
     unsigned yields = 0;
     int status, number = SIGUSR1;
-    for (bool enters = true;; ) {
+    for (bool enters = true;;) {
         if (ptrace(PTRACE_SYSCALL, child, NULL, (void *)(long)number) != 0 || waitpid(child, &status, 0) != child)
             fail("it does not go on");
         if (!WIFSTOPPED(status) || status >> 8 == (SIGTRAP | PTRACE_EVENT_EXEC << 8))
