@@ -71,7 +71,10 @@ static bool is_readable_file(const char *path)
 /* The path of a file in the folder where the command's own file is, links followed; or null. */
 static const char *beside_command(const struct options *options, const char *name)
 {
-    char *program = path_of_program(options->self != NULL ? options->self : options->command[0], NULL);
+    char served[48], *program = served;
+    snprintf(served, sizeof served, "/proc/%ju/exe", (uintmax_t)options->served);
+    if (options->served == 0)
+        program = path_of_program(options->command[0], NULL);
     char *file = program != NULL ? realpath(program, NULL) : NULL;
     char *slash = file != NULL ? strrchr(file, '/') : NULL;
     return slash != NULL ? path_in(file, (size_t)(slash - file), name) : NULL;

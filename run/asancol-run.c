@@ -17,6 +17,7 @@
 #include <unistd.h>
 
 #include "checkers.h"
+#include "common/crash.h"
 #include "common/standard.h"
 #include "children.h"
 #include "loop.h"
@@ -169,7 +170,7 @@ static const char *nothing_text(const struct run_end *end)
     int status = WIFEXITED(end->status) ? WEXITSTATUS(end->status) : 0;
     int signal = WIFSIGNALED(end->status) ? WTERMSIG(end->status) : status - 128;
     const char *front = status == 0 ? "the command was" : "a program of the command was";
-    if (end->has_timed_out || signal <= 0 || !verdict_is_crash((unsigned)signal))
+    if (end->has_timed_out || signal <= 0 || !crash_is((unsigned)signal))
         return "NOTHING WAS RECORDED: was a program built with asancol-cc?";
     snprintf(text, sizeof text, "NOTHING WAS RECORDED: %s ended by %s before a recording began, or not built with "
              "asancol-cc", front, signal_name(signal));
@@ -367,7 +368,10 @@ static pid_t start(const struct options *options, int *signals)
 {
     int status = 0;
     say_open(options->log);
-    hub_open(options->quiet);
+    if (options->served != 0)
+        serving_begin((pid_t)options->served, options->sockets);
+    else
+        hub_open(options->quiet);
     need_descriptors(options->served != 0);
     children_begin();
     *signals = signals_open();

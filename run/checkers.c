@@ -32,6 +32,7 @@ static struct {
     uint64_t quarantine;    /* that they say */
     bool is_fixed;          /* whatever the process has held */
     bool keeps;
+    bool are_held; /* who sends nothing has nothing to report */
 } checkers;
 
 /* What a checker runs as, with as much held as the process holds: else it would report good events. */
@@ -85,6 +86,7 @@ void checkers_begin(const struct options *options)
     checkers.quarantine = options->held;
     checkers.is_fixed = options->are_files && options->quarantine != NULL;
     checkers.keeps = options->keep != NULL;
+    checkers.are_held = options->are_held;
     if (checkers.keeps)
         keep_begin(options->keep);
 }
@@ -207,7 +209,10 @@ bool checker_start(struct segment *segment)
         return start_small(segment);
     meet(segment);
     if (segment->cut == CUT_NONE && has_sent_nothing(segment)) {
-        if (segments_take_empty(segment)) {
+        bool is_left_out = checkers.are_held && segment->process->first == segment;
+        if (is_left_out)
+            segments_leave_out(segment);
+        if (is_left_out || segments_take_empty(segment)) {
             segment_is_done(segment);
             close_one(&segment->connection);
             return true;

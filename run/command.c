@@ -19,7 +19,6 @@
 #include "hub.h"
 #include "names.h"
 #include "say.h"
-#include "serving.h"
 #include "signals.h"
 
 /* Where our text goes: a process that halts there leaves its report to us, unless nothing is there to print it. */
@@ -129,31 +128,17 @@ static _Noreturn void become(const struct options *options, const char *hub, cha
     if (slack != 0)
         prctl(PR_SET_TIMERSLACK, slack, 0, 0, 0);
     signals_restore();
-    if (options->self != NULL)
-        execve(options->self, options->command, environment);
-    else
-        execvpe(options->command[0], options->command, environment);
+    execvpe(options->command[0], options->command, environment);
     *error = errno;
     _exit(OWN_FAILURE);
-}
-
-/* A program whose file has no name has kept it open for us. */
-static void hide_own_file(const struct options *options)
-{
-    static const char folder[] = "/proc/self/fd/";
-    if (options->self != NULL && begins_with(options->self, folder))
-        fcntl(atoi(options->self + strlen(folder)), F_SETFD, FD_CLOEXEC);
 }
 
 pid_t command_start(const struct options *options, const char *hub, int *status)
 {
     char **environment = environment_for(options, hub);
-    hide_own_file(options);
     note_settings(environment);
-    if (options->served != 0) {
-        serving_begin((pid_t)options->served, environment, marked_slack(hub));
-        return (pid_t)options->served;
-    }
+    if (options->served != 0)
+        return (pid_t)options->served; /* it runs already */
     volatile int error = 0;
     pid_t command = vfork(); /* we wait for the exec in any case */
     if (command < 0) {

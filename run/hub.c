@@ -4,7 +4,9 @@
 #include "hub.h"
 
 #include <errno.h>
+#include <fcntl.h>
 #include <stdbool.h>
+#include <stddef.h>
 #include <stdio.h>
 #include <stdlib.h>
 #include <string.h>
@@ -120,6 +122,20 @@ void hub_open(bool is_quiet)
     listen_to_questions(has_folder);
 }
 
+void hub_adopt(int listener, int questions)
+{
+    struct sockaddr_un name;
+    socklen_t size = sizeof name;
+    if (getsockname(listener, (struct sockaddr *)&name, &size) != 0 || size <= offsetof(struct sockaddr_un, sun_path) + 1)
+        fail(OWN_FAILURE, "--sockets", "there is no socket with an abstract name");
+    snprintf(address, sizeof address, "%.*s", (int)(size - offsetof(struct sockaddr_un, sun_path) - 1),
+             name.sun_path + 1);
+    listeners[1] = listener;
+    asked[1] = questions;
+    for (int i = 0; i < 2; i++)
+        fcntl(i == 0 ? listener : questions, F_SETFD, FD_CLOEXEC);
+}
+
 const char *hub_address(void)
 {
     return address;
@@ -145,14 +161,19 @@ const int *hub_asked(void)
     return asked;
 }
 
+bool hub_know(int connection, struct ucred *peer)
+{
+    socklen_t size = sizeof *peer;
+    return getsockopt(connection, SOL_SOCKET, SO_PEERCRED, peer, &size) == 0;
+}
+
 int hub_accept(int listener, struct ucred *peer)
 {
     for (;;) {
-        socklen_t size = sizeof *peer;
         int connection = accept4(listener, NULL, NULL, SOCK_CLOEXEC);
         if (connection < 0 && (errno == ECONNABORTED || errno == EINTR))
             continue;
-        if (connection < 0 || getsockopt(connection, SOL_SOCKET, SO_PEERCRED, peer, &size) == 0)
+        if (connection < 0 || hub_know(connection, peer))
             return connection;
         close(connection);
     }

@@ -185,6 +185,19 @@ static bool accept_one(int listener)
     return true;
 }
 
+/* Those that were accepted before this run began. */
+static void take_accepted(void)
+{
+    struct ucred peer;
+    int connection;
+    while ((connection = serving_next_connection()) >= 0) {
+        if (hub_know(connection, &peer))
+            add_connection(connection, &peer);
+        else
+            close(connection);
+    }
+}
+
 static void accept_from(int listener)
 {
     for (int count = 0; count < MAX_AT_ONCE && has_room() && accept_one(listener); count++)
@@ -607,6 +620,7 @@ struct collected loop_run(const struct options *options, pid_t command, int sign
     run.timeout_at = options->timeout > 0 ? run.started + options->timeout : 0;
     hold_processes();
     modules_allow(run.descriptors / 4);
+    take_accepted();
     while (!is_over())
         wait_once(do_due());
     hub_stop();

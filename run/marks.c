@@ -12,6 +12,7 @@
 #include <unistd.h>
 
 #include "checkers.h"
+#include "common/crash.h"
 #include "common/hub_name.h"
 #include "common/text.h"
 #include "deaths.h"
@@ -131,7 +132,7 @@ void marks_take_word(pid_t number, char *text)
    limit on files that the recorder came to. */
 static bool is_of_others(int signal)
 {
-    return !verdict_is_crash((unsigned)signal) && signal != SIGXFSZ;
+    return !crash_is((unsigned)signal) && signal != SIGXFSZ;
 }
 
 /* Whether a process is the one of the mark: it has connected since that was made, or has left a word that says more.

@@ -99,8 +99,9 @@
     {"memory", 0, PASS_CHECK, 0, 1048576, 1099511627776, NULL}, \
     {"limit", 0, PASS_CHECK, 0, 1, 16777216, NULL}, \
     {"files", 0, SET_FLAG, AT(are_files), 0, 0, NULL}, \
-    {"self", 0, SET_INPUT, AT(self), 0, 0, NULL}, \
     {"serve", 0, SET_NUMBER, AT(served), 1, 999999999, NULL}, \
+    {"sockets", 0, SET_INPUT, AT(sockets), 0, 0, NULL}, \
+    {"held", 0, SET_FLAG, AT(are_held), 0, 0, NULL}, \
     {"help", 'h', SHOW_HELP, 0, 0, 0, NULL}, \
     {"version", 0, SHOW_VERSION, 0, 0, 0, NULL}
 

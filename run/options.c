@@ -75,7 +75,7 @@ static const char *nearest(const char *name, size_t length)
         return NULL;
     for (size_t i = 0; i < COUNT(table); i++) {
         size_t offset = table[i].offset;
-        if (offset == AT(are_files) || offset == AT(self) || offset == AT(served))
+        if (offset == AT(are_files) || offset == AT(served) || offset == AT(sockets) || offset == AT(are_held))
             continue; /* asancol-report's or the recorder's alone */
         size_t away = edit_distance(name, length, table[i].name);
         if (length >= 3 && strncmp(name, table[i].name, length) == 0)

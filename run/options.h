@@ -31,8 +31,9 @@ struct options {
     enum unchecked unchecked;
     enum leaks leaks;
     const char *log;        /* or null */
-    const char *self;       /* the file of the command, or null: its first word names it */
     uint64_t served;        /* the process that runs the command by itself (serving.h), or 0 */
+    const char *sockets;    /* the numbers of its sockets, */
+    bool are_held;          /* on which nothing comes from a process that has nothing to report */
     const char *keep;       /* a folder, or null */
     const char *quarantine; /* as text, or null */
     uint64_t held;          /* how many bytes of freed blocks, if a process does not say otherwise */

@@ -125,6 +125,12 @@ static bool goes_on(const struct process *process)
     return last->outcome.ending == ENDING_SEGMENT || (last->side != NULL && last->side->ending == ENDING_SEGMENT);
 }
 
+void segments_leave_out(struct segment *segment)
+{
+    segment->process->first = NULL;
+    joined_count++;
+}
+
 bool segments_take_empty(struct segment *segment)
 {
     struct process *own = segment->process, *last = NULL, *other = own->peer != 0 ? process_of_peer(own->peer) : NULL;
@@ -133,8 +139,7 @@ bool segments_take_empty(struct segment *segment)
             last = other;
     if (last == NULL)
         return false;
-    own->first = NULL;
-    joined_count++;
+    segments_leave_out(segment);
     return true;
 }
 

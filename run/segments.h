@@ -14,6 +14,8 @@
 void segments_join_file(struct process *process, struct segment *segment);
 /* Joins one whose side memory was mapped to those of the same process that have come before. */
 void segments_join(struct segment *segment);
+/* Leaves out one that had nothing to report, and its process. */
+void segments_leave_out(struct segment *segment);
 /* Whether it has connected to go on in the next segment of a process, and has sent nothing: that one did not come. It
    is no process then. */
 bool segments_take_empty(struct segment *segment);

@@ -14,6 +14,7 @@
 
 #include "children.h"
 #include "deaths.h"
+#include "hub.h"
 
 static struct {
     pid_t number; /* 0: the command is a child, as usual */
@@ -21,34 +22,39 @@ static struct {
     int asking;   /* the connection on which it will ask, or -1 */
     int asked;    /* the same once it waits there, or -1 */
     int status;   /* with which it ends, once it has asked */
+    const char *sockets; /* those that were not taken yet */
     bool has_asked, is_over;
 } served = {.process = -1, .asking = -1, .asked = -1};
 
-static bool put(const void *bytes, size_t length)
+/* The next number of the list, or -1 at its end. */
+static int next_socket(void)
 {
-    const char *at = bytes;
-    while (length > 0) {
-        ssize_t count = write(STDIN_FILENO, at, length);
-        if (count < 0 && errno != EINTR)
-            return false;
-        at += count > 0 ? count : 0;
-        length -= count > 0 ? (size_t)count : 0;
-    }
-    return true;
+    char *end;
+    long socket = strtol(served.sockets, &end, 10);
+    if (end == served.sockets)
+        return -1;
+    served.sockets = end + (*end == ',');
+    if (socket > 0)
+        fcntl((int)socket, F_SETFD, FD_CLOEXEC);
+    return (int)socket;
 }
 
-void serving_begin(pid_t number, char *const *environment, unsigned long slack)
+void serving_begin(pid_t number, const char *sockets)
 {
     served.number = number;
+    served.sockets = sockets;
     children_hide_errors();
     served.process = (int)syscall(SYS_pidfd_open, number, 0);
     if (served.process >= 0)
         fcntl(served.process, F_SETFD, FD_CLOEXEC);
-    bool is_put = put(&slack, sizeof slack);
-    for (; is_put && *environment != NULL; environment++)
-        is_put = put(*environment, strlen(*environment) + 1);
-    close(STDIN_FILENO); /* for which the program waits, even if no other descriptor can be had */
-    open("/dev/null", O_RDWR);
+    int asking = next_socket(), listener = next_socket(), questions = next_socket();
+    served.asking = asking > 0 ? asking : -1;
+    hub_adopt(listener, questions);
+}
+
+int serving_next_connection(void)
+{
+    return served.sockets != NULL ? next_socket() : -1;
 }
 
 bool serving_is_on(void)

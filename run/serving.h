@@ -1,8 +1,8 @@
 /* A run for a program that runs already, and is no child of this one (process/own_run.h): the program has the process
-   number that its parent knows. It gets its environment from us, and becomes itself with that. At its end it asks for
-   the status of the run, and waits for it.
+   number that its parent knows. It began with something to report: the sockets listened before, and some connections
+   were accepted. At its end the program asks for the status of the run, and waits for it.
 
-   Called: serving_begin by command.c at the start, serving_take by asking.c; the rest by loop.c, serving_is_on and
+   Called: serving_begin by asancol-run.c at the start, serving_take by asking.c; the rest by loop.c, serving_is_on and
    serving_answer also by asancol-run.c; in the one thread of asancol-run; no lock. */
 #ifndef ASANCOL_RUN_SERVING_H
 #define ASANCOL_RUN_SERVING_H
@@ -11,8 +11,11 @@
 #include <stdbool.h>
 #include <sys/types.h>
 
-/* Hands its environment to the process that waits at the other end of standard input, with its timer slack. */
-void serving_begin(pid_t number, char *const *environment, unsigned long slack);
+/* Takes its sockets over, whose numbers are separated by commas: its connection to ask, or 0 if it has closed that; the
+   one that listens for recordings; the one for questions; and the accepted ones. */
+void serving_begin(pid_t number, const char *sockets);
+/* The next accepted connection, or -1. */
+int serving_next_connection(void);
 /* Whether this run serves such a program. */
 bool serving_is_on(void);
 /* Becomes readable at its end. -1: it has ended, or nothing tells. */

@@ -12,6 +12,7 @@
 #include <sys/wait.h>
 #include <unistd.h>
 
+#include "common/crash.h"
 #include "deaths.h"
 #include "end_line.h"
 #include "judgement_rows.h"
@@ -246,15 +247,6 @@ static bool has_stopped(struct segment *segment)
     return death != DEATH_NONE && !is_other;
 }
 
-bool verdict_is_crash(unsigned number)
-{
-    static const unsigned crashes[] = {SIGSEGV, SIGBUS, SIGILL, SIGFPE, SIGABRT, SIGSYS, SIGTRAP};
-    for (size_t i = 0; i < sizeof crashes / sizeof *crashes; i++)
-        if (crashes[i] == number)
-            return true;
-    return false;
-}
-
 /* Whether the process came as far as main. What it is for was not seen if it did not. */
 static bool has_begun(const struct segment *segment)
 {
@@ -465,8 +457,8 @@ static void judge(struct segment *segment)
     bool is_unheard = outcome->ending == ENDING_NONE && !(facts & REPLACED);
     if ((row->answer == UP_TO_THERE || row->answer == BEFORE_MAIN) && is_unheard)
         outcome->signal = unheard_signal(segment);
-    outcome->is_crash = verdict_is_crash(outcome->signal) && !outcome->has_halted;
-    outcome->is_ignored = verdict_is_crash(outcome->signal) && ignores_deaths(segment->process->parent);
+    outcome->is_crash = crash_is(outcome->signal) && !outcome->has_halted;
+    outcome->is_ignored = crash_is(outcome->signal) && ignores_deaths(segment->process->parent);
     say_why(segment, row->answer, row->why);
     outcome->is_settled = is_settled(segment, fate, facts);
 }

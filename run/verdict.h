@@ -1,6 +1,6 @@
 /* What came of a process: its end line, and whether it was complete.
 
-   Called: verdict_begin and verdict_is_crash by asancol-run.c, the latter also by marks.c, verdict_is_at_end by held.c,
+   Called: verdict_begin by asancol-run.c, verdict_is_at_end by held.c,
    verdict_blame_limit by segments.c, signal_name by these and report.c; the rest by checkers.c, which judges; in the
    one thread of asancol-run; no lock. */
 #ifndef ASANCOL_RUN_VERDICT_H
@@ -29,8 +29,6 @@ bool verdict_again(struct segment *segment);
 /* Says of one that is incomplete that it went on after the limit of events. */
 void verdict_blame_limit(struct outcome *outcome);
 
-/* Whether a process itself has raised a signal of this number, by a mistake. */
-bool verdict_is_crash(unsigned number);
 /* "SIGTERM", or "signal 40". */
 const char *signal_name(int number);
 

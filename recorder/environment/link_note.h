@@ -1,4 +1,5 @@
-/* The note that a link by asancol-cc leaves in a program or a shared object: what of it asancol-cc did not compile. It
+/* The note that a link by asancol-cc leaves in a program or a shared object: what of it asancol-cc did not compile, and
+   where asancol-run is. It
    is an ELF note, so strip leaves it there, and it is found in a file as in memory. common/README.md says it in words.
 
    Called: there is no code here. The wrapper writes the note into the linked file; a process only reads it, in any
@@ -12,7 +13,7 @@
 #define LINK_NOTE_SECTION ".note.asancol"
 /* Each text that objects have in a section of this name is a line of it (plugin/gcc.cpp). */
 #define LINK_NOTE_LINES ".asancol.unchecked"
-enum { LINK_NOTE_TYPE = 1, LINK_NOTE_ROOM = 4076 };
+enum { LINK_NOTE_TYPE = 1, LINK_NOTE_ROOM = 4076, LINK_NOTE_RUN = 508, LINK_NOTE_TEXT = LINK_NOTE_ROOM - LINK_NOTE_RUN };
 
 /* The first line of its text: until the wrapper has written there, and then. */
 #define LINK_NOTE_UNKNOWN "unknown\n"
@@ -21,7 +22,8 @@ enum { LINK_NOTE_TYPE = 1, LINK_NOTE_ROOM = 4076 };
 struct link_note {
     uint32_t owner_size, text_size, type;
     char owner[sizeof LINK_NOTE_OWNER];
-    char text[LINK_NOTE_ROOM]; /* lines, and zeros after them */
+    char text[LINK_NOTE_TEXT]; /* lines, and zeros after them */
+    char run[LINK_NOTE_RUN];   /* the path of asancol-run, if it has room there, and zeros */
 };
 
 #endif

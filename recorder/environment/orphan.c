@@ -186,6 +186,23 @@ void orphan_ask(void)
         look_for_run(take_settings, NULL);
 }
 
+bool orphan_ask_at(const char *hub)
+{
+    return take_settings(hub, NULL) && given.text[0] != 0;
+}
+
+void orphan_give(const char *lines)
+{
+    size_t length = strlen(lines);
+    if (length > sizeof given.text - 2)
+        return;
+    memcpy(given.text, lines, length + 1);
+    for (size_t i = 0; i < length; i++)
+        if (given.text[i] == '\n')
+            given.text[i] = 0;
+    given.text[length + 1] = 0; /* an earlier answer may have been longer */
+}
+
 const char *orphan_value(const char *name)
 {
     size_t length = strlen(name);

@@ -9,10 +9,16 @@
 #ifndef ASANCOL_ORPHAN_H
 #define ASANCOL_ORPHAN_H
 
+#include <stdbool.h>
+
 #include "base/platform.h"
 
 /* Asks the run for its settings, if there is one that takes this process for its own. */
 void orphan_ask(void);
+/* The same of this run. False: it gives none. */
+bool orphan_ask_at(const char *hub);
+/* What that run would answer, in lines. */
+void orphan_give(const char *lines);
 /* What the run has said of a setting, or null. */
 const char *orphan_value(const char *name);
 

@@ -45,6 +45,7 @@ static const char *const names[] = {
     "ASANCOL_FULL",
     "ASANCOL_OUTER",
     "ASANCOL_RUN",
+    "ASANCOL_RUN_OPTIONS",
     "ASANCOL_ODR",
     "ASANCOL_ROOT",
     "ASANCOL_INIT_ORDER",
@@ -212,12 +213,14 @@ static const char *name_from_root(const char *name, struct entry *entry)
     return text + strlen(name) + 1;
 }
 
-/* The pattern of traces beside a socket. Null: it is too long. */
+/* The pattern of traces beside a socket. Null: it is too long, or there is no folder. */
 static const char *traces_beside(const char *path, struct entry *entry)
 {
     const char *slash = strrchr(path, '/');
     size_t length = slash != NULL ? (size_t)(slash - path) + 1 : 0;
     entry->text[0] = 0;
+    if (slash == path)
+        return NULL; /* the name of a socket without a folder */
     bool fits = add_name(entry->text, PATH_MAX, path, length) && add(entry->text, PATH_MAX, "%p.trace");
     return fits ? entry->text : NULL;
 }

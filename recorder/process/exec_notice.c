@@ -16,6 +16,7 @@
 #include "base/digits.h"
 #include "base/self.h"
 #include "process/given.h"
+#include "environment/dormant.h"
 #include "environment/hub_names.h"
 #include "process/process.h"
 #include "stream/side.h"
@@ -109,6 +110,12 @@ static const char *expected_in(const struct target *target, const char *path, co
     return built != BUILT_BY_OTHERS ? path : NULL;
 }
 
+/* Whether programs that this one starts are to connect to its hub: else each has a run of its own. */
+static bool expects(void)
+{
+    return recorder_hub() != NULL && !dormant_is_there();
+}
+
 /* Leaves word with the hub. False: the file needs none, or no word could be left. */
 static bool note_exec(const struct target *target, const char *found)
 {
@@ -129,7 +136,7 @@ unsigned exec_notice_leave(const struct target *target)
 {
     char room[PATH_MAX];
     const char *path = NULL;
-    bool may_be = true, is_noted = false, is_left = false, has_hub = recorder_hub() != NULL;
+    bool may_be = true, is_noted = false, is_left = false, has_hub = expects();
     _Atomic uint64_t *calls = side_begin_calls(true);
     if (has_hub || (!target->is_looked_for && stream_state() != STATE_OFF))
         path = path_of(target, room, &may_be);
@@ -153,7 +160,7 @@ bool exec_notice_of_child(const struct target *target)
     char room[PATH_MAX];
     bool may_be;
     _Atomic uint64_t *calls = side_begin_calls(true);
-    const char *why, *found = recorder_hub() != NULL ? path_of(target, room, &may_be) : NULL;
+    const char *why, *found = expects() ? path_of(target, room, &may_be) : NULL;
     const char *path = expected_in(target, found, &why);
     bool is_noted = path != NULL && hub_word_expect_child(recorder_hub(), target->name, why);
     side_end_calls(calls);

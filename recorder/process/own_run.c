@@ -1,21 +1,20 @@
-/* At the start, a program without an output forks twice: the grandchild becomes asancol-run, in a session of its own,
-   and is no child of the program's. It sends the environment of a command through a pipe, with which the program
-   executes itself again. So the program stays the process that its parent has started. A program to which orphans come,
-   such as the first process of a container, would have the run as its child: it becomes the run, and is its child. */
+/* The settings that a run gives to the command are put where the answer of a run would be (orphan.h), so the environment
+   of the program stays as it is: each program that it executes has a run of its own. With ASANCOL_RUN_OPTIONS there may
+   be something to write also if nothing is found, so the run begins at once, and is asked for the settings.
+
+   A program to which orphans come, such as the first process of a container, would have the run as its child: it
+   becomes the run, and is its child. */
 #define _GNU_SOURCE
 #include "process/own_run.h"
 
-#include <asm/termbits.h>
 #include <errno.h>
 #include <fcntl.h>
 #include <limits.h>
-#include <sched.h>
 #include <signal.h>
+#include <stdbool.h>
 #include <string.h>
-#include <sys/ioctl.h>
 #include <sys/mman.h>
 #include <sys/prctl.h>
-#include <sys/wait.h>
 #include <unistd.h>
 
 #include "base/digits.h"
@@ -23,21 +22,34 @@
 #include "base/platform.h"
 #include "base/say.h"
 #include "base/system.h"
+#include "common/hub_name.h"
 #include "common/text.h"
 #include "environment/asking.h"
+#include "environment/dormant.h"
+#include "environment/hub_names.h"
+#include "environment/link_note.h"
 #include "environment/orphan.h"
 #include "environment/startup.h"
 #include "process/preload_choice.h"
+#include "process/waiter.h"
 
 #define PROGRAM "asancol-run"
-#define NO_MEMORY "there is no memory, so it runs unchecked"
+#define NO_MEMORY "there is no memory"
 
-/* There if the link was asked for it: by -fsanitize=address (by_flag.c), and by --asancol-run (by_option.c). */
+/* There if the link was asked for it: by -fsanitize=address (by_flag.c), and by --asancol-no-run (by_option.c). */
 extern const char asancol_by_flag[] __attribute__((visibility("default"), weak));
 extern const char asancol_by_option[] __attribute__((visibility("default"), weak));
+extern const struct link_note asancol_link_note;
 
-/* Why the program has not become a run of its own; null: nobody wants that. */
+/* What libFuzzer and others call is a target, which reports its first fault itself. */
+extern int LLVMFuzzerTestOneInput(const unsigned char *, size_t) __attribute__((weak));
+
+/* With which it ends if it cannot be checked. */
+enum { NOT_CHECKED = 98 };
+
+/* Why there is no run, with the path of one that could not be executed; null: there is one, or nobody wants one. */
 static const char *failure;
+static bool is_only_tried;
 
 /* The value of a variable that is not empty, or null. */
 static const char *value_of(const char *name)
@@ -63,262 +75,217 @@ static bool has_output(void)
 }
 
 #define OWN_FILE "/proc/self/exe"
-#define OPEN_FILE "/proc/self/fd/"
-#define OWN_WORDS "/proc/self/cmdline"
 
-/* Whether the name leads to the file that this process runs. */
-static bool is_own_file(const char *path)
-{
-    struct stat own, seen;
-    return system_stat(OWN_FILE, &own) != 0
-           || (system_stat(path, &seen) == 0 && seen.st_dev == own.st_dev && seen.st_ino == own.st_ino);
-}
-
-/* The program's own file. Its first word may be any other. One without a name, such as in memory or after it was
-   removed, the system still has open; whoever becomes another program first has to keep it open. */
-static bool find_self(char *path, size_t room, bool is_kept)
-{
-    char digits[DIGITS_ROOM];
-    ssize_t length = system_readlink(OWN_FILE, path, room - 1);
-    if (length > 0)
-        path[length] = 0;
-    else if (strchr(startup_name(), '/') != NULL && strlen(startup_name()) < room)
-        strcpy(path, startup_name());
-    else
-        return false;
-    if (is_own_file(path))
-        return system_access(path, X_OK) == 0;
-    int kept = is_kept ? system_open(OWN_FILE, O_PATH, 0) : 0;
-    strcpy(path, OWN_FILE);
-    if (is_kept && kept >= 0)
-        strcat(strcpy(path, OPEN_FILE), put_digits(digits + sizeof digits, (unsigned)kept, 1));
-    return kept >= 0 && system_access(OWN_FILE, X_OK) == 0;
-}
-
-/* Memory that is never given back: the process becomes another one, or goes on without it. Null: there is none. */
+/* Memory that is never given back. Null: there is none. */
 static void *take_memory(size_t bytes)
 {
     long made = system_mmap(NULL, bytes, PROT_READ | PROT_WRITE, MAP_PRIVATE | MAP_ANONYMOUS, -1, 0);
     return made > 0 ? (void *)made : NULL;
 }
 
-/* Whether orphans become its children. */
-static bool is_reaper(void)
+/* The words of ASANCOL_RUN_OPTIONS, separated by blanks; quotes keep blanks in a word. They are taken apart in this copy.
+   Answers how many; null: they are counted. */
+static size_t split(char *text, const char **words)
 {
-    int is_one = 0;
-    if (system_call3(SYS_prctl, PR_GET_CHILD_SUBREAPER, (long)&is_one, 0) != 0)
-        is_one = 0;
-    return is_one != 0 || system_getpid() == 1;
+    size_t count = 0;
+    char *to = text;
+    for (char *at = text; *(at += strspn(at, " \t\n")) != 0; count++) {
+        char quote = 0;
+        if (words != NULL)
+            words[count] = to;
+        for (; *at != 0 && (quote != 0 || strchr(" \t\n", *at) == NULL); at++) {
+            if (quote == *at || (quote == 0 && (*at == '"' || *at == '\'')))
+                quote = quote == 0 ? *at : 0;
+            else if (words != NULL)
+                *to++ = *at;
+        }
+        bool is_last = *at == 0;
+        if (words != NULL)
+            *to++ = 0;
+        at += !is_last;
+    }
+    return count;
 }
 
-/* asancol-run -q --format FORM --self FILE, with --serve PROCESS if it is no child of the run, and the words of the
-   command. Who has come from AddressSanitizer, by its flag or its options, may have parsers of its text. Null: there is
-   no memory. */
-static const char **make_argv(const char *self, const char *const *words, bool is_served)
+/* Copies of the texts in memory of their own: the list ends with a null. Null: there is no memory. */
+static const char **copy_list(const char *const *list, size_t count)
+{
+    size_t room = (count + 1) * sizeof *list;
+    for (size_t i = 0; i < count; i++)
+        room += strlen(list[i]) + 1;
+    const char **copy = take_memory(room);
+    char *at = copy != NULL ? (char *)(copy + count + 1) : NULL;
+    for (size_t i = 0; at != NULL && i < count; at += strlen(at) + 1, i++)
+        copy[i] = strcpy(at, list[i]);
+    return copy;
+}
+
+/* Whether the run is to begin also if there is nothing to report. */
+static bool begins_at_once(void)
+{
+    return value_of("ASANCOL_RUN_OPTIONS") != NULL;
+}
+
+/* What the run is started with, before the words of the program. Who has come from AddressSanitizer, by its flag or its
+   options, may have parsers of its text. Answers how many words. */
+enum { MOST_FRONT = 10, MOST_OPTIONS = 256 };
+static size_t put_front(const char **list, struct waiter_command *command)
 {
     static char digits[DIGITS_ROOM];
-    enum { FRONT = 9 };
-    size_t count = 0, at = 0;
-    while (words[count] != NULL)
-        count++;
-    const char **argv = take_memory((count + FRONT + 1) * sizeof *argv);
-    if (argv == NULL)
-        return NULL;
-    argv[at++] = PROGRAM;
-    argv[at++] = "-q";
-    argv[at++] = "--format";
-    argv[at++] = asancol_by_flag != NULL || value_of("ASAN_OPTIONS") != NULL ? "asan" : "asancol";
-    argv[at++] = "--self";
-    argv[at++] = self;
-    if (is_served) {
-        argv[at++] = "--serve";
-        argv[at++] = put_digits(digits + sizeof digits, (uint64_t)system_getpid(), 1);
-    }
-    argv[at++] = "--";
-    for (size_t i = 0; i <= count; i++)
-        argv[at + i] = words[i];
-    return argv;
+    bool is_asan = asancol_by_flag != NULL || value_of("ASAN_OPTIONS") != NULL;
+    const char *const front[] = {
+        PROGRAM,     "-q",
+        "--format",  is_asan ? "asan" : "asancol",
+        "--serve",   put_digits(digits + sizeof digits, (uint64_t)system_getpid(), 1),
+        "--sockets", ""};
+    enum { WORDS = sizeof front / sizeof *front };
+    memcpy(list, front, sizeof front);
+    command->sockets_at = WORDS - 1;
+    list[WORDS] = "--held";
+    return WORDS + !begins_at_once();
 }
 
-/* Answers why it did not. */
-static int become(const char *path, const char *const *argv)
+/* False: there is no memory. */
+static bool make_words(struct waiter_command *command, const char *const *words)
 {
-    return -(int)system_call3(SYS_execve, (long)path, (long)argv, (long)startup.variables);
-}
-
-/* Tries each folder of PATH. */
-static int become_found(const char *const *argv)
-{
-    char path[PATH_MAX];
-    const char *at = value_of("PATH");
-    int error = ENOENT;
-    for (at = at != NULL ? at : "/usr/local/bin:/usr/bin:/bin"; *at != 0; at += *at == ':') {
-        size_t length = strcspn(at, ":");
-        if (length > 0 && length + sizeof "/" PROGRAM <= sizeof path) {
-            memcpy(path, at, length);
-            strcpy(path + length, "/" PROGRAM);
-            int tried = become(path, argv);
-            error = tried != ENOENT && tried != ENOTDIR ? tried : error;
-        }
-        at += length;
-    }
-    return error;
-}
-
-/* Answers why it did not. What the process has of a run that is over is none of the new one's. */
-static int become_run(const char *wanted, const char *const *argv)
-{
-    char **kept = startup.variables;
-    for (char **entry = kept; (*kept = *entry) != NULL; entry++)
-        kept += !begins_with(*entry, "ASANCOL_HUB=") && !begins_with(*entry, "ASANCOL_ROOT=");
-    return strchr(wanted, '/') != NULL ? become(wanted, argv) : become_found(argv);
-}
-
-/* In the grandchild. */
-static _Noreturn void become_server(const char *wanted, const char *const *argv, int to)
-{
-    system_dup2(to, STDIN_FILENO);
-    if (to == STDIN_FILENO)
-        system_fcntl(to, F_SETFD, 0);
-    unsigned char said = (unsigned char)become_run(wanted, argv);
-    system_write(STDIN_FILENO, &said, sizeof said);
-    system_exit(1);
-}
-
-/* No signal tells the program of this child, nobody but us waits for it, and no debugger follows it. */
-static int fork_quietly(void)
-{
-    return (int)system_call6(SYS_clone, CLONE_UNTRACED, 0, 0, 0, 0, 0);
-}
-
-static void start_run(const char *wanted, const char *const *argv, int to)
-{
-    int child = fork_quietly(), status;
-    if (child == 0) {
-        system_setsid();
-        if (fork_quietly() == 0)
-            become_server(wanted, argv, to);
-        system_exit(0);
-    }
-    while (child > 0 && system_call4(SYS_wait4, child, (long)&status, __WALL, 0) == -EINTR)
-        continue;
-}
-
-/* Reads up to the end. Null: there is no memory. */
-static char *read_answer(int from, size_t *length)
-{
-    size_t room = 1 << 16;
-    char *text = take_memory(room);
-    ssize_t count = 1;
-    *length = 0;
+    const char *list[MOST_FRONT + MOST_OPTIONS], *options = value_of("ASANCOL_RUN_OPTIONS");
+    size_t at = put_front(list, command), of_words = 0;
+    char *text = take_memory(options != NULL ? strlen(options) + 1 : 1);
     if (text == NULL)
-        return NULL;
-    while (count > 0 || count == -EINTR) {
-        if (room - *length < 2) {
-            char *more = take_memory(2 * room);
-            if (more == NULL)
-                return NULL;
-            text = memcpy(more, text, *length);
-            room *= 2;
-        }
-        count = system_read(from, text + *length, room - *length - 1);
-        *length += count > 0 ? (size_t)count : 0;
+        return false;
+    if (options != NULL && split(strcpy(text, options), NULL) <= MOST_OPTIONS)
+        at += split(text, list + at);
+    list[at++] = "--";
+    while (words[of_words] != NULL)
+        of_words++;
+    const char **all = take_memory((at + of_words + 1) * sizeof *all);
+    if (all == NULL)
+        return false;
+    memcpy(all, list, at * sizeof *all);
+    memcpy(all + at, words, of_words * sizeof *all);
+    command->words = copy_list(all, at + of_words);
+    return command->words != NULL;
+}
+
+/* Looks for asancol-run: where the user says it is; else where it was at the link, beside the program, and in each folder
+   of PATH. False: it is nowhere. */
+static bool find_run(char path[PATH_MAX], const char *wanted)
+{
+    struct joined joined = {.text = path, .room = PATH_MAX};
+    if (wanted != NULL && strchr(wanted, '/') != NULL) {
+        joined_add(&joined, wanted, PATH_MAX);
+        return !joined.is_cut && system_access(path, X_OK) == 0;
     }
+    joined_add(&joined, asancol_link_note.run, sizeof asancol_link_note.run);
+    if (joined.length > 0 && system_access(path, X_OK) == 0)
+        return true;
+    ssize_t length = system_readlink(OWN_FILE, path, PATH_MAX - 1);
+    joined.length = length > 0 ? (size_t)length : 0;
+    while (joined.length > 0 && path[joined.length - 1] != '/')
+        joined.length--;
+    joined_add(&joined, PROGRAM, sizeof PROGRAM);
+    if (length > 0 && !joined.is_cut && system_access(path, X_OK) == 0)
+        return true;
+    const char *at = value_of("PATH");
+    for (at = at != NULL ? at : "/usr/local/bin:/usr/bin:/bin"; *at != 0; at += *at == ':') {
+        size_t of_folder = strcspn(at, ":");
+        joined = (struct joined){.text = path, .room = PATH_MAX};
+        joined_add(&joined, at, of_folder);
+        joined_add(&joined, "/" PROGRAM, sizeof PROGRAM + 1);
+        if (of_folder > 0 && !joined.is_cut && system_access(path, X_OK) == 0)
+            return true;
+        at += of_folder;
+    }
+    return false;
+}
+
+/* Why asancol-run was not found, and what to do. */
+static const char *why_not_found(const char *wanted)
+{
+    static char text[PATH_MAX + 256];
+    bool is_path = wanted != NULL && strchr(wanted, '/') != NULL;
+    struct joined joined = {.text = text, .room = sizeof text};
+    joined_add(&joined, PROGRAM, sizeof text);
+    if (is_path || asancol_link_note.run[0] != 0) {
+        joined_add(&joined, " can't be executed at ", sizeof text);
+        joined_add(&joined, is_path ? wanted : asancol_link_note.run, PATH_MAX);
+        joined_add(&joined, is_path ? "" : ", and", sizeof text);
+    }
+    joined_add(&joined, is_path ? "" : " is not beside the program or in PATH", sizeof text);
+    joined_add(&joined, ": install it, set ASANCOL_RUN to its path, or set ASANCOL_RUN=0 to run unchecked", sizeof text);
     return text;
 }
 
-/* The texts that follow one another, each with its zero, as a list. Null: there is no memory. */
-static const char **list_of(const char *text, size_t length)
+/* The settings that asancol-run would give to its command. The text that it prints goes to the standard error of
+   the program; a log has to be known by its options. */
+static void give_settings(const char *hub)
 {
-    size_t count = 0;
-    for (size_t i = 0; i < length; i++)
-        count += text[i] == 0;
-    const char **list = take_memory((count + 1) * sizeof *list);
-    for (size_t i = 0; list != NULL && i < count; i++, text += strlen(text) + 1)
-        list[i] = text;
-    return list;
+    char text[SETTINGS_MOST] = "", digits[DIGITS_ROOM];
+    struct stat seen;
+    const char *options = value_of("ASAN_OPTIONS");
+    bool is_log = options != NULL && strstr(options, "log_path=") != NULL;
+    struct joined joined = {.text = text, .room = sizeof text};
+    joined_add(&joined, "ASANCOL_HUB=", SETTINGS_MOST);
+    joined_add(&joined, hub, WAITER_NAME_ROOM);
+    joined_add(&joined, "\nASANCOL_ROOT=", SETTINGS_MOST);
+    joined_add(&joined, put_digits(digits + sizeof digits, (uint64_t)system_getpid(), 1), sizeof digits);
+    joined_add(&joined, "\nASANCOL_LEAKS=1", SETTINGS_MOST);
+    if (is_log) {
+        joined_add(&joined, "\nASANCOL_TEXT=log", SETTINGS_MOST);
+    } else if (system_fstat(STDERR_FILENO, &seen) == 0) {
+        joined_add(&joined, "\nASANCOL_TEXT=", SETTINGS_MOST);
+        joined_add(&joined, put_digits(digits + sizeof digits, seen.st_dev, 1), sizeof digits);
+        joined_add(&joined, ":", 1);
+        joined_add(&joined, put_digits(digits + sizeof digits, seen.st_ino, 1), sizeof digits);
+    }
+    orphan_give(text);
 }
 
-/* The words with which the file of this process is executed. That is the dynamic linker's in `ld.so PROGRAM`, which has
-   taken its own words away. */
-static const char *const *find_words(void)
+/* Answers why it did not. */
+static const char *begin(struct waiter_command *command)
 {
-#ifndef IS_STATIC
-    size_t length;
-    int from = startup.are_all_words ? -1 : system_open(OWN_WORDS, O_RDONLY | O_CLOEXEC, 0);
-    const char *text = from >= 0 ? read_answer(from, &length) : NULL;
-    if (from >= 0)
-        system_close(from);
-    if (text != NULL)
-        return list_of(text, length);
-#endif
-    return (const char *const *)startup.argv;
-}
-
-static const char *why_not(int error)
-{
-    return error == ENOENT ? PROGRAM " was not found, so it runs unchecked: ASANCOL_RUN may be its path"
-                           : error_text(error);
-}
-
-/* Starts the run, and executes the program again with what that has sent: the timer slack, and the environment. It
-   answers why it did not. */
-static const char *begin_again(const char *wanted, const char *self, const char *const *words, const char *const *argv)
-{
-    unsigned long slack;
-    int ends[2];
-    size_t length = 0;
-    if (system_call3(SYS_pipe2, (long)ends, O_CLOEXEC, 0) != 0)
-        return "it has no descriptor for a pipe, so it runs unchecked";
-    start_run(wanted, argv, ends[1]);
-    system_close(ends[1]);
-    const char *text = read_answer(ends[0], &length);
-    system_close(ends[0]);
-    if (text != NULL && length == 1)
-        return why_not((unsigned char)*text);
-    if (text == NULL || length < sizeof slack)
-        return PROGRAM " did not begin, so it runs unchecked";
-    memcpy(&slack, text, sizeof slack);
-    const char **variables = list_of(text + sizeof slack, length - sizeof slack);
-    if (variables == NULL)
+    char hub[WAITER_NAME_ROOM];
+    if (!make_words(command, (const char *const *)startup.argv))
         return NO_MEMORY;
-    if (slack != 0)
-        system_call3(SYS_prctl, PR_SET_TIMERSLACK, (long)slack, 0);
-    return error_text(-(int)system_call3(SYS_execve, (long)self, (long)words, (long)variables));
+    const char *why = waiter_begin(command, hub);
+    if (why != NULL)
+        return why;
+    give_settings(hub);
+    if (!begins_at_once())
+        return NULL;
+    dormant_begin(NULL);
+    return orphan_ask_at(hub) ? NULL : PROGRAM " did not begin";
+}
+
+/* Whether the user wants none: of a fuzzer's target only who asks for it has one. */
+static bool is_refused(const char *wanted)
+{
+    if (wanted != NULL)
+        return strcmp(wanted, "0") == 0;
+    return asancol_by_option != NULL || LLVMFuzzerTestOneInput != NULL || value_of("__AFL_SHM_ID") != NULL;
 }
 
 void own_run_begin(void)
 {
-    static char self[PATH_MAX];
+    static char path[PATH_MAX];
+    struct waiter_command command = {.path = path};
     const char *wanted = value_of("ASANCOL_RUN");
-    if (wanted == NULL && asancol_by_option != NULL)
-        wanted = "1";
-    if (IS_PRELOADED || wanted == NULL || strcmp(wanted, "0") == 0 || startup.argv == NULL || startup.is_set_user
-        || has_output())
+    if (IS_PRELOADED || startup.argv == NULL || is_refused(wanted) || (!startup.is_set_user && has_output()))
         return;
-    const char *const *words = NULL;
-    const char **argv = NULL;
-    bool is_child = is_reaper();
-    if (!find_self(self, sizeof self, is_child))
-        failure = "its own file is not known, or cannot be executed, so it runs unchecked";
-    else if ((words = find_words()) == NULL || (argv = make_argv(self, words, !is_child)) == NULL)
-        failure = NO_MEMORY;
-    else if (is_child)
-        failure = why_not(become_run(wanted, argv));
+    is_only_tried = wanted != NULL && strcmp(wanted, "try") == 0;
+    if (startup.is_set_user)
+        failure = "it is set-user-ID or set-group-ID, so it starts no asancol-run: set ASANCOL_RUN=0 to run unchecked";
+    else if (!find_run(path, wanted))
+        failure = why_not_found(wanted);
     else
-        failure = begin_again(wanted, self, words, argv);
+        failure = begin(&command);
 }
 
-static bool is_at_terminal(void)
+void own_run_say(void)
 {
-    struct termios unused;
-    return system_call3(SYS_ioctl, STDERR_FILENO, TCGETS, (long)&unused) == 0;
-}
-
-void own_run_say(bool is_recorded)
-{
-    if (failure != NULL)
-        recorder_say("ASANCOL_RUN: ", startup_name(), failure);
-    else if (!is_recorded && asancol_by_flag != NULL && is_at_terminal())
-        recorder_say("", "not checked", "run it under " PROGRAM ", or set ASANCOL_RUN=1");
+    if (failure == NULL)
+        return;
+    recorder_say(is_only_tried ? "not checked: " : "not started: ", startup_name(), failure);
+    if (!is_only_tried)
+        system_exit(NOT_CHECKED);
 }

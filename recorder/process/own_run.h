@@ -1,4 +1,5 @@
-/* ASANCOL_RUN: a program that finds no run starts one for itself, which is asancol-run with the program's words.
+/* A program that finds no run has one of its own: asancol-run with the program's words, which begins once there is
+   something to report.
 
    Called: own_run_begin by start.c and own_run_say by process.c, in the thread that starts the recorder, not in a
    signal handler. Lock: none is held, and there is no other thread yet. Memory comes from the system alone,
@@ -6,13 +7,10 @@
 #ifndef ASANCOL_OWN_RUN_H
 #define ASANCOL_OWN_RUN_H
 
-#include <stdbool.h>
-
-/* Starts it and executes the program again, if that is asked for and the process has nowhere to record to. The
-   environment is known. Else only `library` has begun, and the allocator with the shadow if something was allocated. */
+/* Arranges for it, unless the process has another place to record to, or its user wants none. The environment is known.
+   Else only `library` has begun, and the allocator with the shadow if something was allocated. */
 void own_run_begin(void);
-/* Says why that was not done; or on a terminal that nothing is checked, of a program that was linked with
-   -fsanitize=address. The settings are read. */
-void own_run_say(bool is_recorded);
+/* Says why there is none, and ends the process with 98 then: nothing is unchecked by accident. The settings are read. */
+void own_run_say(void);
 
 #endif

@@ -16,8 +16,10 @@
 #include "libc/library.h"
 #include "heap/heap.h"
 #include "process/preload_choice.h"
+#include "environment/dormant.h"
 #include "environment/orphan.h"
 #include "process/own_run.h"
+#include "process/root.h"
 #include "process/run_connection.h"
 #include "process/threads.h"
 #include "environment/hub_word.h"
@@ -187,7 +189,7 @@ void recorder_start(void)
     settings_read(&process.settings);
     process.pattern = process.settings.trace;
     bool wanted = output_name() != NULL;
-    own_run_say(wanted || recorder_halts());
+    own_run_say();
     if (!IS_PRELOADED)
         recorder_say_who();
     enum halt halt = process.settings.halt;
@@ -353,7 +355,9 @@ static bool leave_for_exec(void)
     /* Nobody switches to another segment from here on. */
     heap_lock();
     enum state state = stream_state();
-    if (state == STATE_RECORDING && stream_suspend(generation))
+    bool is_suspended = state == STATE_RECORDING && stream_suspend(generation);
+    root_becomes(true);
+    if (is_suspended)
         return true;
     heap_unlock();
     if (state != STATE_AT_LIMIT)
@@ -373,6 +377,7 @@ bool recorder_before_exec(void)
 
 void recorder_exec_failed(void)
 {
+    root_becomes(false);
     if (stream_resume())
         heap_unlock();
 }
@@ -398,6 +403,7 @@ void recorder_fork_begins(void)
     if (forks_recorded() && !is_inside)
         side_look_at_generation(generation);
     process.error_before_fork = errno;
+    dormant_note_fork();
     errno = 0;
 }
 
@@ -407,6 +413,8 @@ void recorder_fork_ends(void)
         if (forks_recorded())
             side_note_fork();
         errno = process.error_before_fork;
+    } else {
+        dormant_note_forked();
     }
     stream_unlock();
     heap_unlock();
@@ -455,6 +463,7 @@ void recorder_child_begins(void)
     if (!recorded || !begin(HELD_BY_CHILD)) {
         be_idle();
     }
+    dormant_note_forked();
     undisturbed_end(&before);
     heap_unlock();
 }

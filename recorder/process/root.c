@@ -7,18 +7,22 @@
 #include <limits.h>
 #include <stdatomic.h>
 #include <string.h>
+#include <sys/prctl.h>
 
 #include "base/digits.h"
 #include "base/disturbance.h"
 #include "base/say.h"
 #include "base/self.h"
 #include "base/system.h"
+#include "common/inherited.h"
+#include "environment/dormant.h"
 #include "environment/other_threads.h"
 #include "environment/settings.h"
 #include "environment/startup.h"
 #include "heap/heap.h"
 #include "process/process.h"
 #include "process/run_connection.h"
+#include "process/waiter.h"
 #include "process/world.h"
 #include "stream/sending.h"
 
@@ -59,6 +63,21 @@ static int ask_for_status(int status)
     return is_over || run_connection_was_made() ? NOT_SEEN : STATUS_STAYS;
 }
 
+void root_becomes(bool becomes)
+{
+    static unsigned long slack_before;
+    if (!is_root() || !dormant_is_there())
+        return;
+    const char *hub = recorder_hub();
+    unsigned long slack = becomes ? (unsigned long)system_prctl(PR_GET_TIMERSLACK) : slack_before;
+    dormant_note_exec(becomes);
+    slack_before = becomes && !dormant_is_asleep() && slack >= SLACK_STEP ? slack : 0;
+    if (slack_before != 0)
+        slack = slack_for(hub, strlen(hub), slack);
+    if (slack_before != 0 || (!becomes && slack != 0))
+        system_call3(SYS_prctl, PR_SET_TIMERSLACK, (long)slack, 0);
+}
+
 void root_note_quick_exit(int status)
 {
     atomic_store(&quick_status, status & UCHAR_MAX);
@@ -79,9 +98,19 @@ static int end_once(int status)
 {
     if (!is_root() || atomic_exchange(&has_asked, true))
         return STATUS_STAYS;
+    if (dormant_has_lost()) {
+        recorder_say("the end was not checked: ", startup_name(), "a process that it has forked could not reach the run");
+        return NOT_SEEN;
+    }
     stream_hang_up();
+    if (dormant_is_asleep()) { /* none of its processes has anything to report */
+        run_connection_retire();
+        return STATUS_STAYS;
+    }
     atomic_store(&is_asking, true);
     int ends_with = ask_for_status(status);
+    if (dormant_is_there())
+        waiter_reap();
     atomic_store(&answered, ends_with);
     atomic_store(&is_asking, false);
     if (ends_with == STATUS_STAYS && atomic_load(&held) != 0)

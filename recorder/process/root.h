@@ -3,8 +3,9 @@
 
    Called: root_end_by_signal and root_holds by signals.c, in the handler of a signal that ends the process, in any
    thread; root_end_at_exit by start.c, hooks.c and halt.c, when nothing is recorded any more, in the thread that ends
-   the process, also in a handler; root_is_to_ask and root_quick_status by start.c, there too; root_note_quick_exit by
-   the program (hooks.def). Lock: the caller has none; root_end_at_exit holds the allocator's while it asks, if there
+   the process, also in a handler; root_is_to_ask and root_quick_status by start.c, there too; root_becomes by process.c, with the
+   allocator's lock before an exec and without it after one that failed; root_note_quick_exit by the program
+   (hooks.def). Lock: the caller has none; root_end_at_exit holds the allocator's while it asks, if there
    are other threads. */
 #ifndef ASANCOL_ROOT_H
 #define ASANCOL_ROOT_H
@@ -13,6 +14,9 @@
 
 enum { STATUS_STAYS = -1 };
 
+/* The process executes another program, or could not. If its run has begun, that program finds it without an
+   environment that names it, and ends with its status. */
+void root_becomes(bool becomes);
 /* Answers the status with which the process is to end in place of its own, which is as of waitpid; or STATUS_STAYS, as
    at once if it is none of those or has asked before. At an exit: other threads stand still meanwhile, and stay so if
    this is the end (world.h). */

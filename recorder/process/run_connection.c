@@ -9,6 +9,7 @@
 #include "base/system.h"
 #include "common/hub_name.h"
 #include "environment/asking.h"
+#include "process/waiter.h"
 
 /* Written in the first thread before there is another, and in a forked child; read by who asks. */
 static struct {
@@ -21,7 +22,9 @@ static struct {
 void run_connection_begin(const char *hub)
 {
     struct stat seen;
-    int patience_ms = ASK_PATIENCE_MS, made = ask_begin(hub, ASK_STATUS, true, &patience_ms);
+    int patience_ms = ASK_PATIENCE_MS, made = waiter_end();
+    if (made < 0)
+        made = ask_begin(hub, ASK_STATUS, true, &patience_ms);
     if (made < 0)
         return;
     made = descriptor_moved_up(made);
@@ -54,6 +57,12 @@ long run_connection_ask(const char *hub, const char *request, char *answer, size
     int connection = is_there() ? kept.connection : ask_begin(hub, ASK_STATUS, true, &patience_ms);
     kept.connection = -1;
     return connection >= 0 ? ask_on(connection, request, answer, room) : connection;
+}
+
+void run_connection_retire(void)
+{
+    if (is_there())
+        waiter_retire(kept.connection);
 }
 
 bool run_connection_was_made(void)

@@ -3,7 +3,7 @@
    that, it connects again.
 
    Called: run_connection_begin and run_connection_forget by process.c, at the start and in a forked child, in the only
-   thread; run_connection_ask and run_connection_was_made by root.c, once, in the thread that ends the process, also in
+   thread; the others by root.c, once, in the thread that ends the process, also in
    a handler. Lock: none is taken; who asks may have the allocator's. */
 #ifndef ASANCOL_RUN_CONNECTION_H
 #define ASANCOL_RUN_CONNECTION_H
@@ -17,6 +17,8 @@ void run_connection_begin(const char *hub);
 void run_connection_forget(void);
 /* Sends a request, and waits for all of the answer. Answers its length, or an error below zero. */
 long run_connection_ask(const char *hub, const char *request, char *answer, size_t room);
+/* Tells it that the program ends, and that there is nothing to ask: the run has not begun. */
+void run_connection_retire(void);
 /* Whether the run knows of the program: there was a connection at the start. */
 bool run_connection_was_made(void);
 

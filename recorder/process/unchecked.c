@@ -241,8 +241,8 @@ static void add_module(struct list *list, const struct map_line *first, const st
     struct module module;
     struct name name = name_of(first);
     if (has_address(first, &asancol_link_note)) {
-        memcpy(text, asancol_link_note.text, LINK_NOTE_ROOM);
-        text[LINK_NOTE_ROOM] = 0;
+        memcpy(text, asancol_link_note.text, LINK_NOTE_TEXT);
+        text[LINK_NOTE_TEXT] = 0;
         add_noted(list, text, name);
         return;
     }

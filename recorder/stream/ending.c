@@ -8,6 +8,7 @@
 #include "base/self.h"
 #include "environment/other_threads.h"
 #include "stream/growing.h"
+#include "stream/held.h"
 #include "stream/holes.h"
 #include "stream/keeping.h"
 #include "stream/locked.h"
@@ -40,8 +41,9 @@ enum finish ending_of(uint64_t cursor, enum finish finish)
     return atomic_load(&shared.is_cut) ? FINISH_OPEN : finish;
 }
 
-/* Goes over the records up to the end. Answers how the stream can end: with a close only if all of them are there. */
-static enum finish finish_of_records(uint64_t end, uint64_t limit, enum finish finish, enum ending ending)
+/* Goes over the records up to the end. Answers how the stream can end: with a close only if all of them are there; and
+   whether it is a good end, at which nothing is missing. */
+static enum finish finish_of_records(uint64_t end, uint64_t limit, enum finish finish, enum ending ending, bool *is_good)
 {
     unsigned holes = holes_check(end, limit, ending == ENDING_SEGMENT ? LONG : SHORT);
     bool is_whole = locked.checked == end || locked.checked_events == limit;
@@ -52,6 +54,8 @@ static enum finish finish_of_records(uint64_t end, uint64_t limit, enum finish f
     }
     if (!is_whole || atomic_load(&shared.has_missed))
         side_note_needed(locked.checked_events + 1); /* which does not come */
+    bool is_end = ending == ENDING_EXIT || ending == ENDING_EXEC || ending == ENDING_SIGNAL;
+    *is_good = is_end && is_whole && !atomic_load(&shared.has_missed) && recorder_has_checks();
     finish = is_whole ? as_seen(finish) : FINISH_OPEN;
     return locked.goes_on && !is_file() ? FINISH_OPEN : finish;
 }
@@ -59,8 +63,9 @@ static enum finish finish_of_records(uint64_t end, uint64_t limit, enum finish f
 /* Sends the last bytes. False: they are lost. A hub knows the missing part if the process has closed the descriptor. */
 static bool send_end(uint64_t end)
 {
-    const char *why =
-        is_file() ? NULL : output_send(&locked.trace, length_to(end), true, plan.settings->patience_ms);
+    const char *why = locked.is_held ? held_send() : NULL;
+    if (why == NULL && !is_file())
+        why = output_send(&locked.trace, length_to(end), true, plan.settings->patience_ms);
     if (why == output_closed && is_hub()) {
         side_note_closed_off();
         return true;
@@ -76,7 +81,8 @@ bool ending_at(uint64_t end, uint64_t limit, enum finish finish, enum ending end
 {
     if (!growing_to(end))
         return false;
-    finish = finish_of_records(end, limit, finish, ending);
+    bool is_good = false;
+    finish = finish_of_records(end, limit, finish, ending, &is_good);
     end = locked.checked;
     unsigned more = tail_length(finish);
     if (finish != FINISH_CLOSED)
@@ -88,7 +94,7 @@ bool ending_at(uint64_t end, uint64_t limit, enum finish finish, enum ending end
     }
     side_note_ending(ending, number, locked.checked_events);
     tail_trim(end, ending);
-    return send_end(end);
+    return (is_good && held_is_quiet()) || send_end(end);
 }
 
 void ending_at_limit(uint64_t end)

@@ -7,11 +7,13 @@
 #include <string.h>
 
 #include "environment/asan_options.h"
+#include "environment/dormant.h"
 #include "shadow/shadow.h"
 #include "stream/fault_list.h"
 #include "stream/faults.h"
 #include "stream/near.h"
 #include "stream/places.h"
+#include "stream/sending.h"
 #include "stream/state.h"
 
 static void put_text(char *to, const char *text, size_t room)
@@ -107,6 +109,8 @@ void finding_note(const struct finding *finding)
         fault_end(list_window(list));
         /* The stream may have gone on in its next segment: who has read this one may have missed it. */
     } while (atomic_load(&STREAM->segment) != segment);
+    if (dormant_is_there())
+        stream_look_at_clock(true); /* the memory beside the stream is not the hub's yet */
     if (is_telling() && !is_leak(finding) && wakes_side())
         above.tell(&(struct told){.finding = finding->kind, .caller = call_site_address(finding->call_site),
                                   .address = finding->start, .size = finding->size, .call = finding->call});

@@ -5,6 +5,7 @@
 #include "base/digits.h"
 #include "base/say.h"
 #include "stream/faults.h"
+#include "stream/held.h"
 #include "stream/holes.h"
 #include "stream/locked.h"
 #include "stream/side.h"
@@ -77,6 +78,8 @@ static void end_early(uint64_t cursor, const char *why)
     side_note_ending(ENDING_LOST, 0, locked.checked_events);
     if ((cursor & CURSOR_ON) || locked.takes_snapshot)
         tail_trim(locked.checked, ENDING_LOST);
+    if (locked.is_held)
+        held_send();
     if (!is_hub() || why != output_closed)
         recorder_say("recording ends: ", locked.trace.path, why);
 }

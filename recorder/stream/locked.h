@@ -12,6 +12,7 @@
 
 extern struct locked {
     bool has_side;
+    bool is_held;            /* nothing of it was sent yet (held.h) */
     unsigned window;         /* in which both lie */
     uint64_t segment;        /* how many came before this one */
     uint64_t start;          /* the offset at which the stream begins */

@@ -9,11 +9,13 @@
 #include "base/platform.h"
 #include "base/say.h"
 #include "base/system.h"
+#include "environment/dormant.h"
 #include "environment/hub_folder.h"
 #include "environment/stale_trace.h"
 #include "environment/hub_word.h"
 #include "stream/faults.h"
 #include "stream/growing.h"
+#include "stream/held.h"
 #include "stream/locked.h"
 #include "stream/segments.h"
 #include "stream/sending.h"
@@ -56,24 +58,21 @@ const char *opening_hub(const struct settings *settings)
 {
     struct window window = windows_of_stream(locked.window);
     const char *why = output_connect(&locked.trace, settings->hub, true, window, settings->patience_ms);
-    if (why != NULL)
+    if (why != NULL) {
+        dormant_note_lost();
         return why;
+    }
     hub_folder_keep(settings->hub);
     memcpy(locked.trace.bytes, HEADER, HEADER_LENGTH);
     window = windows_of_side(locked.window);
     const char *why_not = output_open_memory(&locked.side, window, &locked.trace, settings->patience_ms);
     if (why_not != NULL) {
         recorder_say("no data are kept beside the trace: ", settings->hub, why_not);
-        return output_send(&locked.trace, HEADER_LENGTH, true, settings->patience_ms);
+        return held_send();
     }
     locked.has_side = true;
     begin_side();
-    int files[SIDE_FILES];
-    unsigned count = side_open_files(files);
-    why = output_send_first(&locked.trace, HEADER_LENGTH, &locked.side, files, count, settings->patience_ms);
-    while (count-- > 0)
-        system_close(files[count]);
-    return why;
+    return held_begin() ? NULL : held_send();
 }
 
 void opening_take_back(void)
@@ -81,7 +80,7 @@ void opening_take_back(void)
     side_forget();
     output_close(&locked.trace);
     output_close(&locked.side);
-    locked.has_side = false;
+    locked.has_side = locked.is_held = false;
 }
 
 void stream_forget(void)

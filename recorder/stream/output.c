@@ -69,6 +69,16 @@ static const char *reason(long result)
     return error_text(error);
 }
 
+/* Hides the descriptor from the program, and keeps its identity. */
+static void keep(struct output *output, int descriptor, enum descriptor_kept kept, const struct stat *seen)
+{
+    output->descriptor = descriptor_moved_up(descriptor);
+    output->kept = kept;
+    output->device = seen->st_dev;
+    output->node = seen->st_ino;
+    descriptor_keep(kept, output->descriptor, seen);
+}
+
 /* Whether the descriptor is still that of the output. A filter of the process may refuse the question: that says
    nothing. */
 static bool is_still(const struct output *output, int descriptor)
@@ -107,10 +117,7 @@ static const char *take_pieces(struct output *output, int descriptor, struct win
     long result = system_fstat(descriptor, &seen);
     if (result < 0)
         return reason(result);
-    output->descriptor = descriptor_moved_up(descriptor);
-    descriptor_keep(KEPT_STREAM, output->descriptor, &seen);
-    output->device = seen.st_dev;
-    output->node = seen.st_ino;
+    keep(output, descriptor, KEPT_STREAM, &seen);
     if (!window.is_new && (result = empty_memory(window)) < 0)
         return reason(result);
     output->is_plain = true;
@@ -144,6 +151,7 @@ static void clear(struct output *output, uint64_t room)
 {
     output->is_mapped = output->is_plain = output->is_socket = output->is_lost = false;
     output->descriptor = -1;
+    output->kept = KEPT_STREAM;
     output->backed = output->sent = 0;
     output->room = room;
     output->bytes = NULL;
@@ -272,6 +280,13 @@ const char *output_open_memory(struct output *output, struct window window, cons
     return NULL;
 }
 
+void output_keep_memory(struct output *memory)
+{
+    struct stat seen;
+    if (memory->descriptor >= 0 && system_fstat(memory->descriptor, &seen) == 0)
+        keep(memory, memory->descriptor, KEPT_SIDE, &seen);
+}
+
 /* Sends bytes and descriptors at once. */
 static ssize_t send_with(int socket, struct iovec piece, const int *descriptors, size_t count)
 {
@@ -296,6 +311,8 @@ const char *output_send_first(struct output *output, uint64_t length, struct out
     int descriptors[1 + SIDE_FILES] = {memory->descriptor};
     memcpy(descriptors + 1, files, count * sizeof *files);
     ssize_t sent;
+    if (memory->kept == KEPT_SIDE && (output_is_closed(output) || !is_still(memory, memory->descriptor)))
+        return output_closed;
     /* ETOOMANYREFS: many descriptors are on their way, and the hub has not taken them yet. The files can be missed. */
     while ((sent = send_with(output->descriptor, piece, descriptors, 1 + count)) == -ETOOMANYREFS
            && (count > 0 || patience_ms > 0)) {
@@ -308,6 +325,7 @@ const char *output_send_first(struct output *output, uint64_t length, struct out
     const char *why = sent < 0 ? reason(sent) : NULL;
     if (why == NULL)
         output->sent = (uint64_t)sent;
+    descriptor_drop(KEPT_SIDE);
     system_close(memory->descriptor);
     memory->descriptor = -1;
     return why;
@@ -401,7 +419,7 @@ void output_make_way(struct output *output, int number)
     struct stat identity = {.st_dev = output->device, .st_ino = output->node};
     if (moved < 0)
         return;
-    descriptor_keep(KEPT_STREAM, moved, &identity);
+    descriptor_keep(output->kept, moved, &identity);
     output->descriptor = moved;
     system_close(number);
 }
@@ -459,7 +477,7 @@ void output_leave(struct output *output)
     else if (output->bytes != NULL)
         put_memory(window);
     if (output->descriptor >= 0) {
-        descriptor_drop(KEPT_STREAM);
+        descriptor_drop(output->kept);
         if (is_still(output, output->descriptor))
             system_close(output->descriptor);
     }

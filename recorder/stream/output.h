@@ -15,11 +15,14 @@
 #include <stdint.h>
 #include <sys/types.h>
 
+#include "base/descriptors.h"
+
 struct output {
     bool is_mapped;
     bool is_plain; /* its bytes are memory of this process alone */
     bool is_socket;
     int descriptor; /* of a mapped file none is held: the process may close all that it finds */
+    enum descriptor_kept kept; /* as which it is hidden from the program */
     dev_t device;   /* its identity, to recognise it */
     ino_t node;
     uint64_t backed; /* a mapped file has this many bytes */
@@ -54,6 +57,8 @@ const char *output_connect(struct output *output, const char *path, bool has_abs
 /* Memory of zeros that another process can map. Nobody can change its size. If this process can't make it, the hub to
    which it is connected is asked for it. */
 const char *output_open_memory(struct output *output, struct window window, const struct output *hub, int patience_ms);
+/* Keeps the descriptor of that memory, which is sent later. */
+void output_keep_memory(struct output *memory);
 /* Sends the first bytes of a socket, and with them the descriptor of that memory, which is closed here, and those of
    files, as long as there is room for them. */
 const char *output_send_first(struct output *output, uint64_t length, struct output *memory, const int *files,

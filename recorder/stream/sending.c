@@ -11,6 +11,7 @@
 #include "base/self.h"
 #include "base/system.h"
 #include "libc/library.h"
+#include "stream/held.h"
 #include "stream/holes.h"
 #include "stream/locked.h"
 #include "stream/keeping.h"
@@ -52,6 +53,11 @@ const char *sending_push(bool all)
 {
     uint64_t reserved = (uint32_t)atomic_load(&STREAM->cursor), ready = atomic_load(&STREAM->ready);
     holes_check(reserved < ready ? reserved : ready, EVENT_LIMIT, NONE);
+    if (held_is_quiet())
+        return NULL;
+    const char *why = locked.is_held ? held_send() : NULL;
+    if (why != NULL)
+        return stay_for_next(why);
     return stay_for_next(output_send(&locked.trace, length_to(locked.checked), all, plan.settings->patience_ms));
 }
 
@@ -85,6 +91,7 @@ void stream_make_way(int descriptor)
     if (descriptor_shown(descriptor) == descriptor || !stream_lock_at_once())
         return;
     output_make_way(&locked.trace, descriptor);
+    output_make_way(&locked.side, descriptor);
     stream_unlock();
 }
 

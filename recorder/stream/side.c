@@ -11,12 +11,14 @@
 #include <time.h>
 
 #include "base/descriptors.h"
+#include "common/crash.h"
 #include "base/memory.h"
 #include "base/platform.h"
 #include "base/say.h"
 #include "base/self.h"
 #include "base/system.h"
 #include "libc/library.h"
+#include "environment/dormant.h"
 #include "environment/startup.h"
 #include "shadow/mapping.h"
 #include "stacks/thread_notes.h"
@@ -202,6 +204,18 @@ void side_begin(unsigned char *bytes, uint64_t segment, const struct settings *s
     put_used_again();
     side_note_first_name();
     modules_show(side);
+}
+
+bool side_has_news(void)
+{
+    const struct side *side = side_now();
+    if (side == NULL)
+        return true;
+    const struct side_progress *progress = progress_in((struct side *)(uintptr_t)side);
+    const struct side_settings *settings = (const void *)((const unsigned char *)side + SIDE_SETTINGS);
+    return word_at(&side->fault_count) != 0 || crash_is(word_at(&side->signal)) || word_at(&side->is_at_limit) != 0
+           || word_at(&settings->has_halted) != 0 || side->left_out != 0 || side->last != 0 || progress->findings_lost != 0
+           || progress->leaks_missed != 0 || progress->inside != 0;
 }
 
 uint64_t side_length(void)
@@ -404,14 +418,14 @@ void side_note_stated(void)
 void side_note_fork(void)
 {
     struct side *side = side_now();
-    if (side != NULL)
+    if (side != NULL && !dormant_is_there()) /* else a good child never connects */
         atomic_fetch_add((_Atomic uint64_t *)&progress_in(side)->forks, 1);
 }
 
 void side_note_child(int child)
 {
     struct side *side = side_now();
-    if (side == NULL)
+    if (side == NULL || dormant_is_there())
         return;
     uint64_t place = atomic_fetch_add((_Atomic uint64_t *)&progress_in(side)->noted_children, 1);
     atomic_store((_Atomic uint32_t *)&progress_in(side)->children[place % SIDE_CHILDREN], (uint32_t)child);

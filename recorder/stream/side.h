@@ -52,6 +52,8 @@ void side_note_finding_lost(void);
    leaks/leaks.c, start/start.c, process/) */
 _Atomic uint64_t *side_begin_calls(bool for_start);
 void side_end_calls(_Atomic uint64_t *calls);
+/* Whether the hub is to know of anything that no event says. (held.c, locked) */
+bool side_has_news(void);
 /* Up to where it has something. (keeping.c, locked) */
 uint64_t side_length(void);
 /* Notes the modules, with the build id of each and the unchecked code, if there are others than were noted. (side.c,

@@ -75,7 +75,7 @@ int main(int count, char **argv)
     request->is_all = own.is_all;
     request->tests_loops = own.has_loops;
     request->has_all_loops = own.has_all_loops;
-    request->runs_itself = own.runs_itself;
+    request->has_no_run = own.has_no_run;
     job.command = command_of(own.compiler, job.front);
     read_arguments(&job);
     job.takes_part = request->inputs.has_any && request->foreign == NULL;

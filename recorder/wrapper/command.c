@@ -16,7 +16,7 @@
 struct own_options own_options_take(char **argv, const struct called *called)
 {
     static const char all[] = "--asancol-all", all_loops[] = "--asancol-all-loops", compiler[] = "--asancol-compiler=";
-    static const char loops[] = "--asancol-loops", run[] = "--asancol-run";
+    static const char loops[] = "--asancol-loops", no_run[] = "--asancol-no-run";
     const char *setting = getenv("ASANCOL_ALL");
     struct own_options own = {.compiler = called->compiler, .is_all = setting != NULL && strcmp(setting, "1") == 0};
     if (own.compiler == NULL)
@@ -29,8 +29,8 @@ struct own_options own_options_take(char **argv, const struct called *called)
             own.has_loops = true;
         else if (strcmp(*word, all_loops) == 0)
             own.has_loops = own.has_all_loops = true;
-        else if (strcmp(*word, run) == 0)
-            own.runs_itself = true;
+        else if (strcmp(*word, no_run) == 0)
+            own.has_no_run = true;
         else if (begins_with(*word, compiler))
             own.compiler = *word + strlen(compiler);
         else

@@ -136,7 +136,7 @@ static bool has_checks(const struct request *request)
 
 static void add_static(struct strings *line, const struct job *job)
 {
-    if (job->request.runs_itself)
+    if (job->request.has_no_run)
         strings_add(line, "-Wl,--undefined=asancol_by_option");
     strings_add(line, "-Wl,--eh-frame-hdr"); /* by which stacks lead through the C library */
     strings_add(line, "-Wl,--undefined=asancol_start");
@@ -174,7 +174,7 @@ static void add_to_program(struct strings *line, const struct job *job)
         strings_add(line, "-Wl,--undefined=__wrap_dlsym"); /* which it calls behind us */
     if (has_start(link) && job->request.asks_for_address)
         strings_add(line, "-Wl,--undefined=asancol_by_flag");
-    if (has_start(link) && job->request.runs_itself)
+    if (has_start(link) && job->request.has_no_run)
         strings_add(line, "-Wl,--undefined=asancol_by_option");
     add_file(line, "libasancol_record.a");
     if (link->has_libc)

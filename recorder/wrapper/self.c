@@ -4,6 +4,8 @@
 
 #include <limits.h>
 #include <stdio.h>
+#include <stdlib.h>
+#include <string.h>
 #include <unistd.h>
 
 #include "common/array.h"
@@ -18,6 +20,20 @@ const char *self_path(void)
         ssize_t length = readlink("/proc/self/exe", path, sizeof path - 1);
         path[length < 0 ? 0 : length] = 0;
     }
+    return path;
+}
+
+const char *self_run(void)
+{
+    static char path[PATH_MAX + 32];
+    const char *self = self_path();
+    int length = (int)(base_name(self) - self);
+    snprintf(path, sizeof path, "%.*s../run/asancol-run", length, self);
+    if (access(path, X_OK) == 0) {
+        static char real[PATH_MAX];
+        return realpath(path, real) != NULL ? real : path;
+    }
+    snprintf(path, sizeof path, "%.*sasancol-run", length, self);
     return path;
 }
 

@@ -17,6 +17,7 @@
 #include "wrapper/archive.h"
 #include "wrapper/linked.h"
 #include "wrapper/say.h"
+#include "wrapper/self.h"
 
 #define LACKING_PLUGIN "intrinsics and complex numbers (no plugin for GCC %u)"
 
@@ -196,7 +197,7 @@ void taken_end(struct taken *taken)
 enum { MORE_LENGTH = 24 };
 
 struct text {
-    char bytes[LINK_NOTE_ROOM];
+    char bytes[LINK_NOTE_ROOM]; /* the text, and the path of asancol-run */
     size_t length, more;
 };
 
@@ -204,7 +205,7 @@ struct text {
 static void put_line(struct text *text, const char *sign, const char *name)
 {
     size_t length = strlen(sign) + strlen(name) + 1;
-    if (text->length + length + MORE_LENGTH > sizeof text->bytes) {
+    if (text->length + length + MORE_LENGTH > LINK_NOTE_TEXT) {
         text->more += sign[0] == 0;
         return;
     }
@@ -221,7 +222,7 @@ static size_t find_text(struct view notes)
 {
     const struct link_note *note;
     char front[offsetof(struct link_note, text)];
-    const uint32_t head[] = {sizeof note->owner, sizeof note->text, LINK_NOTE_TYPE};
+    const uint32_t head[] = {sizeof note->owner, LINK_NOTE_ROOM, LINK_NOTE_TYPE};
     memcpy(front, head, sizeof head);
     memcpy(front + sizeof head, LINK_NOTE_OWNER, sizeof note->owner);
     const char *found = notes.size != 0 ? memmem(notes.bytes, notes.size, front, sizeof front) : NULL;
@@ -300,6 +301,9 @@ void taken_write(struct taken *taken, const char *output)
             put_line(text, "/", taken->system.names[i]);
         if (text->more + taken->own.more != 0)
             snprintf(text->bytes + text->length, MORE_LENGTH, "+%zu\n", text->more + taken->own.more);
+        const char *run = self_run();
+        if (strlen(run) < LINK_NOTE_RUN)
+            strcpy(text->bytes + LINK_NOTE_TEXT, run);
         if (pwrite(file, text->bytes, sizeof text->bytes, (off_t)at) < 0)
             warn(output, "the list of unchecked code could not be added");
         close(file);

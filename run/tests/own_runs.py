@@ -1,4 +1,4 @@
-"""A program that starts its own run, by ASANCOL_RUN or by --asancol-run at its link."""
+"""A program that finds no run has its own, which begins once there is something to report."""
 
 import os
 import re
@@ -8,7 +8,6 @@ import subprocess
 import time
 from typing import Any, List
 
-from lives import at_terminal
 from support import (
     CC, REPORT, RUN, Ran, Suite, compilers_there, expect, expect_in, expect_not_in, expect_ran, leave_out, wait_until,
     write_text,
@@ -16,38 +15,89 @@ from support import (
 from testing.programs import Started, call
 
 PAST = "heap-buffer-overflow: store of 1 byte"
-NOT_CHECKED = "asancol: not checked: run it under asancol-run, or set ASANCOL_RUN=1"
 
 
 def run_alone(suite: Suite, *argv: str, **settings: str) -> Ran:
-    return suite.run_argv(argv, ASANCOL_REPORT=REPORT, **{"ASANCOL_RUN": RUN, **settings})
+    return suite.run_argv(argv, ASANCOL_REPORT=REPORT, **{"ASANCOL_RUN": "", **settings})
 
 
 def check_statuses(suite: Suite, folder: str) -> None:
-    """It has the status, the streams and the words that it would have under asancol-run -q; its children join."""
+    """It has the status, the streams and the words that it would have under asancol-run -q. What it has forked joins."""
     program = suite.program
     expect_ran(run_alone(suite, program, "sound"), 0, absent=["asancol"])
     expect_ran(run_alone(suite, program, "past"), 99, PAST, "1 process, ")
-    expect_ran(run_alone(suite, program, "child"), 99, "heap-use-after-free", "2 processes, ")
-    expect_ran(run_alone(suite, program, "execs", program, "past"), 99, PAST, "2 processes, ")
+    expect_ran(run_alone(suite, program, "child"), 99, "heap-use-after-free", "1 process, ")
+    expect_ran(run_alone(suite, program, "execs", program, "past"), 99, PAST, "1 process, ")
     expect_ran(run_alone(suite, program, "kills_itself", "15"), -15)
     expect_ran(run_alone(suite, "sh", "-c", f"{program} past 2> {folder}/err; exec {program} sound"), 0, absent=[PAST])
     with open(f"{folder}/err", encoding="utf-8") as file:
         expect_in(file.read(), PAST)
-    folders = f"/nonexistent:{os.path.dirname(RUN)}:{os.environ['PATH']}"
-    expect_ran(run_alone(suite, "bash", "-c", f"exec -a other {program} past", ASANCOL_RUN="1", PATH=folders), 99, PAST,
-               "in store_past")
+    expect_ran(run_alone(suite, "bash", "-c", f"exec -a other {program} past", ASANCOL_RUN="1"), 99, PAST, "in store_past")
     expect_ran(run_alone(suite, RUN, "--", program, "past"), 99, PAST, "asancol: 1 report at 1 place; 1 process, ")
     ran = run_alone(suite, program, "past", ASANCOL_TRACE=f"{folder}/t.trace")
     expect((ran.err, os.path.exists(f"{folder}/t.trace")), ("", True), "a trace is written as ever")
 
 
 def check_without(suite: Suite, folder: str) -> None:
-    for value in ("/nonexistent/asancol-run", "1"):
-        ran = run_alone(suite, suite.program, "past", ASANCOL_RUN=value, PATH="/nonexistent")
-        expect_ran(ran, 0, "asancol: ASANCOL_RUN: ", "asancol-run was not found, so it runs unchecked", absent=[PAST])
-    for value in ("0", ""):
-        expect_ran(run_alone(suite, suite.program, "past", ASANCOL_RUN=value), 0, absent=["asancol"])
+    """Where no run can begin it ends before main, with 98 and a line that says why, unless its user wants otherwise."""
+    write_text(f"{folder}/m.c", "#include <stdio.h>\nint main(void) { return puts(\"main\") < 0; }\n")
+    call([CC, "m.c", "-o", "m"], cwd=folder, check=True)
+    def refused(ran: Ran, *why: str) -> None:
+        expect_ran(ran, 98, "asancol: not started: ", *why)
+        expect(ran.out, "", "it ends before main")
+    missing = "/nonexistent/asancol-run"
+    refused(run_alone(suite, f"{folder}/m", ASANCOL_RUN=missing),
+            f"asancol-run can't be executed at {missing}: install it, set ASANCOL_RUN to its path, or set ASANCOL_RUN=0")
+    write_text(f"{folder}/asancol-run", "")
+    refused(run_alone(suite, f"{folder}/m", ASANCOL_RUN=f"{folder}/asancol-run"), "can't be executed")
+    refused(run_alone(suite, "sh", "-c", f"ulimit -n 4; exec {folder}/m"), "Too many open files")
+    refused(run_alone(suite, f"{folder}/m", ASANCOL_RUN_OPTIONS="--no-such"), "asancol-run did not begin", "--no-such")
+    tried = run_alone(suite, "sh", "-c", f"ulimit -n 4; exec {folder}/m", ASANCOL_RUN="try")
+    expect_ran(tried, 0, "asancol: not checked: ", "Too many open files")
+    expect(tried.out, "main\n", "it was tried")
+    expect_ran(run_alone(suite, suite.program, "past", ASANCOL_RUN="0"), 0, absent=["asancol"])
+
+
+def check_options(suite: Suite, folder: str) -> None:
+    """The run has the words of ASANCOL_RUN_OPTIONS, also where there is nothing to report."""
+    result = f"{folder}/a b.jsonl"
+    ran = run_alone(suite, suite.program, "sound", ASANCOL_RUN_OPTIONS=f"--json '{result}' --html {folder}/p.html")
+    expect_ran(ran, 0, absent=["asancol"])
+    expect((os.path.exists(result), os.path.exists(f"{folder}/p.html")), (True, True), "its files")
+    expect_ran(run_alone(suite, suite.program, "past", ASANCOL_RUN_OPTIONS="--exitcode 7 --format=asan"), 7,
+               "AddressSanitizer: heap-buffer-overflow")
+    expect_ran(run_alone(suite, suite.program, "sound", ASANCOL_RUN_OPTIONS="-v"), 0, "complete, 2 events, 0 reports")
+
+
+# Runs each program with its words, as the process to which orphans come, and says how it ended and what is left of it. It
+# waits for no orphan. After an x on standard output a program gets a signal.
+LEAVES = """
+import ctypes, os, signal, subprocess, sys
+ctypes.CDLL(None).prctl(36, 1)
+for words in ([], ["quickly", "3"], ["handles"], ["forks"]):
+    started = subprocess.Popen([sys.argv[1], *words], stdout=subprocess.PIPE, stderr=subprocess.DEVNULL)
+    if words == ["handles"]:
+        started.stdout.read(1)
+        started.send_signal(signal.SIGTERM)
+    status = started.wait()
+    listed = subprocess.run(["ps", "-o", "stat=,args=", "--ppid", str(os.getpid())], stdout=subprocess.PIPE, text=True)
+    print(status, len([line for line in listed.stdout.splitlines() if "ps -o" not in line]))
+"""
+
+
+def check_nothing_left(suite: Suite, folder: str) -> None:
+    """Nothing is left of a run: no process, not even a zombie for a first process that minds none, and no file."""
+    os.mkdir(f"{folder}/tmp")
+    ran = run_alone(suite, "python3", "-c", LEAVES, make_lives(folder), TMPDIR=f"{folder}/tmp")
+    expect(ran.out.splitlines(), ["0 0", "99 0", "-15 0", "0 0"], "what is left")
+    expect(os.listdir(f"{folder}/tmp"), [], "files")
+
+
+def check_as_it_was(suite: Suite, folder: str) -> None:
+    """The environment says nothing of the run, also in what it executes."""
+    ran = run_alone(suite, suite.program, "execs", "env")
+    expect_not_in(ran.out, "ASANCOL_HUB")
+    expect_not_in(ran.out, "ASANCOL_ROOT")
 
 
 LOSES = """
@@ -96,13 +146,12 @@ def check_static(suite: Suite, folder: str) -> None:
 
 
 def check_linked(suite: Suite, folder: str) -> None:
-    """One that was linked for it needs no variable, which turns it off; under another run it is that one's."""
-    folders = f"{os.path.dirname(RUN)}:{os.environ['PATH']}"
+    """One that was linked to have none has it by a variable; under another run it is that one's."""
     for flags in ((), ("-static",)):
-        program = make(folder, "--asancol-run", *flags)
-        expect_ran(run_alone(suite, program, "x", ASANCOL_RUN="", PATH=folders), 99, PAST, "1 process, ")
-        expect_ran(run_alone(suite, program, "x", ASANCOL_RUN="0", PATH=folders), 0, absent=["asancol"])
-        expect_ran(suite.run("--", program, "x", ASANCOL_REPORT=REPORT, PATH=folders), 99, PAST, "1 process, ")
+        program = make(folder, "--asancol-no-run", *flags)
+        expect_ran(run_alone(suite, program, "x"), 0, absent=["asancol"])
+        expect_ran(run_alone(suite, program, "x", ASANCOL_RUN="1"), 99, PAST, "1 process, ")
+        expect_ran(suite.run("--", program, "x", ASANCOL_REPORT=REPORT), 99, PAST, "1 process, ")
 
 
 LIVES = """
@@ -125,6 +174,10 @@ int main(int count, char **argv) {
     if (is(way, "place")) {
         int is_alone = wait(NULL) < 0 && errno == ECHILD, first = dup(0);
         printf("%d %d %d %d %d %d\\n", getpid(), getppid(), getsid(0), getpgrp(), is_alone, first);
+    } else if (is(way, "forks")) {
+        for (int i = 0; i < 100; i++)
+            if (fork() == 0) return 0;
+        while (wait(NULL) > 0) continue;
     } else if (is(way, "closes")) {
         for (int i = atoi(argv[2]); i < 1000; i++) close(i);
         past();
@@ -183,7 +236,7 @@ def make_lives(folder: str) -> str:
 
 
 def start_alone(suite: Suite, *argv: str, **given: Any) -> Started:
-    return Started(argv, env=suite.environment(ASANCOL_RUN=RUN, ASANCOL_REPORT=REPORT), **given)
+    return Started(argv, env=suite.environment(ASANCOL_RUN="", ASANCOL_REPORT=REPORT), **given)
 
 
 def check_place(suite: Suite, folder: str) -> None:
@@ -225,7 +278,7 @@ def check_closed(suite: Suite, folder: str) -> None:
 
 
 def check_ways_out(suite: Suite, folder: str) -> None:
-    """Each way out of the process has the status of the run; a program that replaces it is the same process."""
+    """Each way out of the process has the status of the run; a program that replaces it joins if there is a report."""
     program = make_lives(folder)
     expect_ran(run_alone(suite, program, "quickly", "3"), 99, PAST)
     expect_ran(run_alone(suite, program, "becomes", program, "place"), 99, PAST, "2 processes, ")
@@ -277,7 +330,7 @@ def check_ended_at_verdict(suite: Suite, folder: str) -> None:
     os.chmod(slow, 0o755)
     for number, again, status in ((signal.SIGTERM, False, 99), (signal.SIGINT, False, 99), (signal.SIGTERM, True, -15)):
         argv = [program, "quickly" if number == signal.SIGTERM else "threads", "3"]
-        with Started(argv, env=suite.environment(ASANCOL_RUN=RUN, ASANCOL_REPORT=slow), stdin=subprocess.DEVNULL,
+        with Started(argv, env=suite.environment(ASANCOL_RUN="", ASANCOL_REPORT=slow), stdin=subprocess.DEVNULL,
                      stdout=subprocess.DEVNULL, stderr=subprocess.PIPE) as started:
             wait_until(lambda: os.path.exists(f"{folder}/begun"), "the verdict")
             started.send_signal(number)
@@ -303,13 +356,13 @@ def check_daemon(suite: Suite, folder: str) -> None:
     expect(time.monotonic() - began < 5, True, "it does not wait")
     def has_report() -> bool:
         with open(f"{folder}/log", encoding="utf-8") as file:
-            return "2 processes, " in file.read()
+            return PAST in file.read()
     wait_until(has_report, "the verdict of the daemon")
 
 
 def check_habits(suite: Suite, folder: str) -> None:
     """A process to which orphans come, as the first one of a container; a child that its parent leaves at once; a
-    debugger; and few descriptors, with which the program runs unchecked."""
+    debugger; and few descriptors, with which no run can begin."""
     program = make_lives(folder)
     as_reaper = f"import ctypes, os; ctypes.CDLL(None).prctl(36, 1); os.execv({program!r}, [{program!r}, 'reaps'])"
     expect_ran(run_alone(suite, "python3", "-c", as_reaper), 99, PAST)
@@ -317,7 +370,8 @@ def check_habits(suite: Suite, folder: str) -> None:
         left = run_alone(suite, program, "leaves")
         expect_in(left.err, PAST)
         expect_not_in(left.err, "never connected")
-    expect_ran(run_alone(suite, "bash", "-c", f"ulimit -n 12; exec {program} quickly 0"), 0, "so it runs unchecked",
+    expect_ran(run_alone(suite, "bash", "-c", f"ulimit -n 12; exec {program} sound"), 0, absent=["asancol"])
+    expect_ran(run_alone(suite, "bash", "-c", f"ulimit -n 12; exec {program} quickly 0"), 98, "too few descriptors",
                absent=[PAST])
     debugger = ["gdb", "-q", "-batch", "-ex", "run", "-ex", "quit", "--args"]
     if shutil.which("gdb") is not None and "exited normally" in run_alone(suite, *debugger, "true").out:
@@ -424,9 +478,8 @@ def check_shut_off(suite: Suite, folder: str) -> None:
             continue
         expect_ran(ran, 3, absent=["asancol"])
         expect_ran(run_alone(suite, f"{folder}/s", way, folder, "bad", **quiet), 99, "AddressSanitizer: heap-use-after")
-    for count in range(2):
-        ran = run_alone(suite, f"{folder}/s", "limit", folder, *["bad"] * count, **quiet)
-        expect_ran(ran, 98, "asancol: the end was not checked: ")
+    expect_ran(run_alone(suite, f"{folder}/s", "limit", folder, **quiet), 3, absent=["asancol"])
+    expect_ran(run_alone(suite, f"{folder}/s", "limit", folder, "bad", **quiet), 98, "asancol: the end was not checked: ")
     argv = ["unshare", "-pf", "--mount-proc", "sh", "-c", f"{folder}/s killed {folder} bad; exit $?"]
     if run_alone(suite, *argv[:3], "true").status != 0:
         leave_out("a run that is killed: no namespaces")
@@ -475,18 +528,6 @@ def check_undefined(suite: Suite, folder: str) -> None:
         expect_ran(run_alone(suite, program), 1, error, absent=["asancol"])
 
 
-def check_terminal(suite: Suite, folder: str) -> None:
-    """One built with -fsanitize=address says on a terminal that nothing checks it, and nowhere else."""
-    def said(program: List[str], **settings: str) -> str:
-        return at_terminal(suite, program, b"", 0.2, **settings).err
-    expect_not_in(said([make(folder)]), NOT_CHECKED)
-    program = make(folder, "-fsanitize=address")
-    expect_in(said([program]), NOT_CHECKED)
-    expect_not_in(said([program], ASANCOL_TRACE=f"{folder}/t"), NOT_CHECKED)
-    expect_not_in(said([RUN, "-q", "--", program]), NOT_CHECKED)
-    expect_ran(suite.run_argv([program]), 0, absent=["asancol"])
-
-
 def tests(suite: Suite) -> None:
     for name, run in (
         ("statuses", check_statuses), ("leaks", check_leaks), ("without asancol-run", check_without),
@@ -494,7 +535,7 @@ def tests(suite: Suite) -> None:
         ("closed", check_closed), ("ways out", check_ways_out), ("afterwards", check_afterwards),
         ("ended", check_ended), ("ended at the verdict", check_ended_at_verdict), ("daemon", check_daemon),
         ("habits", check_habits), ("names", check_names), ("shut off", check_shut_off),
-        ("ended by UndefinedBehaviorSanitizer", check_undefined),
-        ("on a terminal", check_terminal),
+        ("ended by UndefinedBehaviorSanitizer", check_undefined), ("options", check_options),
+        ("nothing left", check_nothing_left), ("as it was", check_as_it_was),
     ):
         suite.test(f"own run: {name}", run)
