@@ -78,6 +78,12 @@ void root_becomes(bool becomes)
         system_call3(SYS_prctl, PR_SET_TIMERSLACK, (long)slack, 0);
 }
 
+void root_has_no_child(void)
+{
+    if (is_root() && dormant_is_there())
+        run_connection_leave(dormant_is_asleep());
+}
+
 void root_note_quick_exit(int status)
 {
     atomic_store(&quick_status, status & UCHAR_MAX);

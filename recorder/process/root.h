@@ -4,8 +4,8 @@
    Called: root_end_by_signal and root_holds by signals.c, in the handler of a signal that ends the process, in any
    thread; root_end_at_exit by start.c, hooks.c and halt.c, when nothing is recorded any more, in the thread that ends
    the process, also in a handler; root_is_to_ask and root_quick_status by start.c, there too; root_becomes by process.c, with the
-   allocator's lock before an exec and without it after one that failed; root_note_quick_exit by the program
-   (hooks.def). Lock: the caller has none; root_end_at_exit holds the allocator's while it asks, if there
+   allocator's lock before an exec and without it after one that failed; root_note_quick_exit and root_has_no_child by the
+   program (hooks.def). Lock: the caller has none; root_end_at_exit holds the allocator's while it asks, if there
    are other threads. */
 #ifndef ASANCOL_ROOT_H
 #define ASANCOL_ROOT_H
@@ -17,6 +17,8 @@ enum { STATUS_STAYS = -1 };
 /* The process executes another program, or could not. If its run has begun, that program finds it without an
    environment that names it, and ends with its status. */
 void root_becomes(bool becomes);
+/* The program is about to wait for all its children, also for those of which no signal tells: none of them is ours. */
+void root_has_no_child(void);
 /* Answers the status with which the process is to end in place of its own, which is as of waitpid; or STATUS_STAYS, as
    at once if it is none of those or has asked before. At an exit: other threads stand still meanwhile, and stay so if
    this is the end (world.h). */

@@ -65,6 +65,11 @@ void run_connection_retire(void)
         waiter_retire(kept.connection);
 }
 
+void run_connection_leave(bool is_asleep)
+{
+    waiter_leave(is_asleep && is_there() ? kept.connection : -1);
+}
+
 bool run_connection_was_made(void)
 {
     return kept.was_made;

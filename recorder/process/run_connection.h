@@ -19,6 +19,8 @@ void run_connection_forget(void);
 long run_connection_ask(const char *hub, const char *request, char *answer, size_t room);
 /* Tells it that the program ends, and that there is nothing to ask: the run has not begun. */
 void run_connection_retire(void);
+/* The process that waits to become the run, or waits for that, is no child of the program's from now on. */
+void run_connection_leave(bool is_asleep);
 /* Whether the run knows of the program: there was a connection at the start. */
 bool run_connection_was_made(void);
 

@@ -11,6 +11,7 @@
 #include <fcntl.h>
 #include <limits.h>
 #include <sched.h>
+#include <signal.h>
 #include <stdbool.h>
 #include <string.h>
 #include <sys/mman.h>
@@ -37,8 +38,8 @@ enum { ASKING, HUB, ASKED, PROCESS, FIRST, MOST_POLLS = FIRST + MOST_WAITING };
 /* So long the children of forks are waited for that have begun, and may have been killed. */
 enum { PATIENCE_MS = 3000 };
 
-/* With this byte the program says that it ends. A question begins with another one. */
-enum { RETIRES = 'e' };
+/* With one byte the program says that it ends, or that it wants to have no child. A question begins with another one. */
+enum { RETIRES = 'e', LEAVES = 'l' };
 
 /* Of the program until it has forked, and of the waiting process then. */
 static struct {
@@ -273,6 +274,16 @@ static bool have_bytes(void)
     return false;
 }
 
+/* A copy goes on, as nobody's child. */
+static void become_copy(void)
+{
+    char answer = LEAVES;
+    int copy = fork_quietly();
+    if (copy > 0)
+        system_exit(0);
+    system_send(waiter.polls[ASKING].fd, copy == 0 ? &answer : "", 1, MSG_NOSIGNAL);
+}
+
 /* Answers whether the program has a question. */
 static bool has_question(void)
 {
@@ -281,10 +292,14 @@ static bool has_question(void)
         system_close(waiter.polls[ASKING].fd);
         waiter.polls[ASKING].fd = -1;
     }
-    if (byte != RETIRES)
+    if (byte != RETIRES && byte != LEAVES)
         return byte >= 0;
     char answer = RETIRES;
     system_read(waiter.polls[ASKING].fd, &answer, 1);
+    if (byte == LEAVES) {
+        become_copy();
+        return false;
+    }
     if (waiter.count == FIRST && atomic_load(&waiter.shared->forking) == 0)
         system_exit(0);
     system_send(waiter.polls[ASKING].fd, &answer, 1, MSG_NOSIGNAL);
@@ -353,6 +368,23 @@ void waiter_retire(int connection)
     char answer = RETIRES;
     if (system_send(connection, &answer, 1, MSG_NOSIGNAL) == 1 && system_read(connection, &answer, 1) <= 0)
         wait_for(child);
+}
+
+void waiter_leave(int connection)
+{
+    char answer = LEAVES;
+    bool is_left = connection < 0;
+    if (child <= 0)
+        return;
+    if (is_left)
+        system_call3(SYS_kill, child, SIGKILL, 0); /* it only waits for the run */
+    else
+        is_left = system_send(connection, &answer, 1, MSG_NOSIGNAL) == 1 && system_read(connection, &answer, 1) == 1
+                  && answer == LEAVES;
+    if (is_left) {
+        wait_for(child);
+        child = 0;
+    }
 }
 
 void waiter_reap(void)

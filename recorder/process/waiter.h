@@ -24,6 +24,8 @@ const char *waiter_begin(const struct waiter_command *command, char hub[WAITER_N
 /* The program ends, and nobody has anything to report: at the other end of this connection it does not wait any more,
    unless forked processes are connected. It is no child of the program's then. */
 void waiter_retire(int connection);
+/* It becomes the child of another one; -1: the run has begun. */
+void waiter_leave(int connection);
 /* Waits for its end, at most some seconds: the run has answered. */
 void waiter_reap(void);
 /* The program's end of its connection to the run, or -1. Whoever asks keeps it. */

@@ -1,6 +1,7 @@
 /* One flag, with the stream's lock. */
 #include "stream/held.h"
 
+#include "base/say.h"
 #include "base/self.h"
 #include "base/system.h"
 #include "environment/dormant.h"
@@ -8,12 +9,15 @@
 #include "stream/side.h"
 #include "stream/state.h"
 
-bool held_begin(void)
+bool held_is_wanted(void)
 {
-    locked.is_held = dormant_is_there() && locked.segment == 0;
-    if (locked.is_held)
-        output_keep_memory(&locked.side);
-    return locked.is_held;
+    return dormant_is_there() && locked.segment == 0;
+}
+
+void held_begin(void)
+{
+    locked.is_held = true;
+    output_keep_memory(&locked.side);
 }
 
 bool held_is_quiet(void)
@@ -27,7 +31,9 @@ const char *held_send(void)
     int files[SIDE_FILES], patience_ms = plan.settings->patience_ms;
     locked.is_held = false;
     dormant_wake();
-    if (!locked.has_side)
+    if (locked.has_side && locked.side.descriptor < 0)
+        recorder_say("no data are kept beside the trace: ", locked.trace.path, "no memory can be shared");
+    if (!locked.has_side || locked.side.descriptor < 0)
         return output_send(&locked.trace, HEADER_LENGTH, true, patience_ms);
     unsigned count = side_open_files(files);
     const char *why = output_send_first(&locked.trace, HEADER_LENGTH, &locked.side, files, count, patience_ms);

@@ -65,14 +65,20 @@ const char *opening_hub(const struct settings *settings)
     hub_folder_keep(settings->hub);
     memcpy(locked.trace.bytes, HEADER, HEADER_LENGTH);
     window = windows_of_side(locked.window);
-    const char *why_not = output_open_memory(&locked.side, window, &locked.trace, settings->patience_ms);
+    bool is_held = held_is_wanted();
+    const char *why_not = output_open_memory(&locked.side, window, is_held ? NULL : &locked.trace, settings->patience_ms);
+    if (why_not != NULL && is_held)
+        why_not = output_open_plain(&locked.side, window);
     if (why_not != NULL) {
         recorder_say("no data are kept beside the trace: ", settings->hub, why_not);
         return held_send();
     }
     locked.has_side = true;
     begin_side();
-    return held_begin() ? NULL : held_send();
+    if (!is_held)
+        return held_send();
+    held_begin();
+    return NULL;
 }
 
 void opening_take_back(void)

@@ -266,7 +266,7 @@ const char *output_open_memory(struct output *output, struct window window, cons
     output->path[0] = 0;
     int made = make_sealed(window.room);
     const char *why = made < 0 ? reason(made) : NULL;
-    if (made < 0)
+    if (made < 0 && hub != NULL)
         made = ask_for_sealed(hub->descriptor, window.room, -made, patience_ms);
     if (made < 0)
         return why;
@@ -278,6 +278,16 @@ const char *output_open_memory(struct output *output, struct window window, cons
     output->bytes = window.bytes;
     output->descriptor = made;
     return NULL;
+}
+
+const char *output_open_plain(struct output *output, struct window window)
+{
+    clear(output, window.room);
+    output->path[0] = 0;
+    output->is_plain = true;
+    output->bytes = window.bytes;
+    long result = put_memory(window);
+    return result < 0 ? reason(result) : NULL;
 }
 
 void output_keep_memory(struct output *memory)

@@ -55,8 +55,10 @@ const char *output_open_file(struct output *output, const char *path, enum namin
 const char *output_connect(struct output *output, const char *path, bool has_abstract, struct window window,
                            int patience_ms);
 /* Memory of zeros that another process can map. Nobody can change its size. If this process can't make it, the hub to
-   which it is connected is asked for it. */
+   which it is connected is asked for it, or null. */
 const char *output_open_memory(struct output *output, struct window window, const struct output *hub, int patience_ms);
+/* The same of memory that no other process can map. */
+const char *output_open_plain(struct output *output, struct window window);
 /* Keeps the descriptor of that memory, which is sent later. */
 void output_keep_memory(struct output *memory);
 /* Sends the first bytes of a socket, and with them the descriptor of that memory, which is closed here, and those of

@@ -46,8 +46,7 @@ KNOWN: Dict[str, Tuple[Sequence[str], str]] = {
     "number_of_descriptors": (IN_A_RUN, "FDSize counts the recorder's descriptors, and fdinfo has them"),
     "others_than_standard_by_errno": (IN_A_RUN, "readlink of /proc/self/fd/N sees them"),
     "select_of_all": (IN_A_RUN, "the system looks at descriptors below FDSize, which is larger"),
-    "clocks": (["own"], "the process that has started the run was a child"),
-    "usage_of_children": (["own"], "the process that has started the run was a child"),
+    "proc_threads": (["own"], "the process that waits to become the run is among the children of the first thread"),
     "other_folder_of_temporaries": (IN_A_RUN, "the run's folder is hidden, and the network another"),
 }
 
