@@ -126,10 +126,10 @@ void hub_adopt(int listener, int questions)
 {
     struct sockaddr_un name;
     socklen_t size = sizeof name;
-    if (getsockname(listener, (struct sockaddr *)&name, &size) != 0 || size <= offsetof(struct sockaddr_un, sun_path) + 1)
+    size_t front = offsetof(struct sockaddr_un, sun_path) + 1;
+    if (getsockname(listener, (struct sockaddr *)&name, &size) != 0 || size <= front)
         fail(OWN_FAILURE, "--sockets", "there is no socket with an abstract name");
-    snprintf(address, sizeof address, "%.*s", (int)(size - offsetof(struct sockaddr_un, sun_path) - 1),
-             name.sun_path + 1);
+    snprintf(address, sizeof address, "%.*s", (int)(size - front), name.sun_path + 1);
     listeners[1] = listener;
     asked[1] = questions;
     for (int i = 0; i < 2; i++)

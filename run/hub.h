@@ -3,9 +3,10 @@
    everybody. So the socket in the folder gets another name as soon as it was bound, with a secret at its end: whoever
    connects there has that name from the command's environment.
 
-   Called: hub_open and hub_address by asancol-run.c, hub_adopt by serving.c, hub_stop by that and loop.c; hub_listeners and hub_is_secret by
-   loop.c, hub_asked by asking.c, hub_accept by both; hub_public_length by command.c, hub_folder by loop.c and report.c,
-   hub_connect by outer.c, hub_knock by nested.c; in the one thread of asancol-run; no lock. */
+   Called: hub_open and hub_address by asancol-run.c, hub_adopt by serving.c, hub_stop by that and loop.c;
+   hub_listeners and hub_is_secret by loop.c, hub_asked by asking.c, hub_accept by both; hub_public_length by
+   command.c, hub_folder by loop.c and report.c, hub_connect by outer.c, hub_knock by nested.c; in the one thread of
+   asancol-run; no lock. */
 #ifndef ASANCOL_RUN_HUB_H
 #define ASANCOL_RUN_HUB_H
 

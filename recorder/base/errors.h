@@ -1,6 +1,6 @@
 /* The system's errors in words.
 
-   Called: by say.c, shadow/mapping.c, stream/, process/own_run.c and process/halt_report.c, in any thread, also in a
+   Called: by say.c, shadow/mapping.c, stream/, process/waiter.c and process/halt_report.c, in any thread, also in a
    handler; no lock: a constant table. Shared objects have it too. */
 #ifndef ASANCOL_ERRORS_H
 #define ASANCOL_ERRORS_H

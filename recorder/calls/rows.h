@@ -70,7 +70,7 @@
     if ((information)->si_code == CLD_KILLED || (information)->si_code == CLD_DUMPED)                                  \
         note_child_killed((information)->si_pid, (information)->si_status)
 #define WAITS(process, flags)                                                                                          \
-    if (((unsigned)(flags) & (__WALL | (unsigned)__WCLONE)) != 0 && (process) <= 0)                                     \
+    if (((unsigned)(flags) & (__WALL | (unsigned)__WCLONE)) != 0 && (process) <= 0)                                    \
         note_waits_for_all()
 #define NOT_OURS(file) file = ask_shown_descriptor(file)
 #define NAMES_THREAD(thread, name) note_thread_name(thread, name)

@@ -2,9 +2,10 @@
    report (process/own_run.h). One word says so, which the program shares with the processes that it forks and with
    the one that waits to become the run.
 
-   Called: dormant_begin by own_run.c at the start; dormant_note_exec by process.c before an exec and after one that has
-   failed, the rest by stream/opening.c, asking.c, root.c and process.c, in any thread, also in a handler. No lock: the
-   words are atomic. */
+   Called: dormant_begin by waiter.c and own_run.c at the start, dormant_is_served by waiter.c in the process that
+   becomes the run; dormant_note_exec by root.c before an exec and after one that has failed, dormant_note_fork and
+   dormant_note_forked by process.c around a fork; the rest by stream/, exec_notice.c and root.c, in any thread, also in
+   a handler. No lock: the words are atomic. */
 #ifndef ASANCOL_DORMANT_H
 #define ASANCOL_DORMANT_H
 
@@ -13,7 +14,7 @@
 #include <stdint.h>
 
 struct dormant {
-    _Atomic uint32_t is_awake; /* 1: something was sent, so the run is about to begin; 2: it takes that */
+    _Atomic uint32_t is_awake; /* 1: something was sent, so the run is about to begin; 2: it does */
     _Atomic uint32_t becomes;  /* the program is about to become another one */
     _Atomic uint32_t is_lost;  /* a forked process can't reach it */
     _Atomic uint32_t forking;  /* how many forks have begun whose child has not connected yet */
@@ -23,7 +24,7 @@ struct dormant {
 void dormant_begin(struct dormant *shared);
 /* Whether it belongs to one, asleep or not. */
 bool dormant_is_there(void);
-/* Whether it belongs to one of which nobody has wanted anything yet. */
+/* Whether it belongs to one that has not begun. */
 bool dormant_is_asleep(void);
 /* A fork begins; and its child is connected, or there is none. */
 void dormant_note_fork(void);
@@ -35,7 +36,7 @@ bool dormant_has_lost(void);
 void dormant_wake(void);
 /* It was sent: waits until the run knows where a forked process has its standard error, but hardly a second. */
 void dormant_await(void);
-/* In the run: it takes what was sent. */
+/* In the run, which takes it. */
 void dormant_is_served(struct dormant *shared);
 /* The program executes another one; or could not. */
 void dormant_note_exec(bool becomes);

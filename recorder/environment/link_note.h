@@ -13,7 +13,8 @@
 #define LINK_NOTE_SECTION ".note.asancol"
 /* Each text that objects have in a section of this name is a line of it (plugin/gcc.cpp). */
 #define LINK_NOTE_LINES ".asancol.unchecked"
-enum { LINK_NOTE_TYPE = 1, LINK_NOTE_ROOM = 4076, LINK_NOTE_RUN = 508, LINK_NOTE_TEXT = LINK_NOTE_ROOM - LINK_NOTE_RUN };
+enum { LINK_NOTE_TYPE = 1, LINK_NOTE_ROOM = 4076, LINK_NOTE_RUN = 508 };
+enum { LINK_NOTE_TEXT = LINK_NOTE_ROOM - LINK_NOTE_RUN };
 
 /* The first line of its text: until the wrapper has written there, and then. */
 #define LINK_NOTE_UNKNOWN "unknown\n"

@@ -1,6 +1,7 @@
-/* The settings that a run gives to the command are put where the answer of a run would be (orphan.h), so the environment
-   of the program stays as it is: each program that it executes has a run of its own. With ASANCOL_RUN_OPTIONS there may
-   be something to write also if nothing is found, so the run begins at once, and is asked for the settings.
+/* The settings that a run gives to the command are put where the answer of a run would be (orphan.h), so the
+   environment of the program stays as it is: each program that it executes has a run of its own. With
+   ASANCOL_RUN_OPTIONS there may be something to write also if nothing is found, so the run begins at once, and is asked
+   for the settings.
 
    A program to which orphans come, such as the first process of a container, would have the run as its child: it
    becomes the run, and is its child. */
@@ -83,24 +84,24 @@ static void *take_memory(size_t bytes)
     return made > 0 ? (void *)made : NULL;
 }
 
-/* The words of ASANCOL_RUN_OPTIONS, separated by blanks; quotes keep blanks in a word. They are taken apart in this copy.
-   Answers how many; null: they are counted. */
-static size_t split(char *text, const char **words)
+/* The words of ASANCOL_RUN_OPTIONS, separated by blanks; quotes keep blanks in a word. They are taken apart in this
+   copy. Answers how many; null: they are counted. */
+static size_t split(char *text, const char **list)
 {
     size_t count = 0;
     char *to = text;
     for (char *at = text; *(at += strspn(at, " \t\n")) != 0; count++) {
         char quote = 0;
-        if (words != NULL)
-            words[count] = to;
+        if (list != NULL)
+            list[count] = to;
         for (; *at != 0 && (quote != 0 || strchr(" \t\n", *at) == NULL); at++) {
             if (quote == *at || (quote == 0 && (*at == '"' || *at == '\'')))
                 quote = quote == 0 ? *at : 0;
-            else if (words != NULL)
+            else if (list != NULL)
                 *to++ = *at;
         }
         bool is_last = *at == 0;
-        if (words != NULL)
+        if (list != NULL)
             *to++ = 0;
         at += !is_last;
     }
@@ -163,12 +164,12 @@ static bool make_words(struct waiter_command *command, const char *const *words)
         return false;
     memcpy(all, list, at * sizeof *all);
     memcpy(all + at, words, of_words * sizeof *all);
-    command->words = copy_list(all, at + of_words);
-    return command->words != NULL;
+    command->argv = copy_list(all, at + of_words);
+    return command->argv != NULL;
 }
 
-/* Looks for asancol-run: where the user says it is; else where it was at the link, beside the program, and in each folder
-   of PATH. False: it is nowhere. */
+/* Looks for asancol-run: where the user says it is; else where it was at the link, beside the program, and in each
+   folder of PATH. False: it is nowhere. */
 static bool find_run(char path[PATH_MAX], const char *wanted)
 {
     struct joined joined = {.text = path, .room = PATH_MAX};
@@ -212,7 +213,8 @@ static const char *why_not_found(const char *wanted)
         joined_add(&joined, is_path ? "" : ", and", sizeof text);
     }
     joined_add(&joined, is_path ? "" : " is not beside the program or in PATH", sizeof text);
-    joined_add(&joined, ": install it, set ASANCOL_RUN to its path, or set ASANCOL_RUN=0 to run unchecked", sizeof text);
+    joined_add(&joined, ": install it, set ASANCOL_RUN to its path, or set ASANCOL_RUN=0 to run unchecked",
+               sizeof text);
     return text;
 }
 

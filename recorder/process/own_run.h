@@ -10,7 +10,8 @@
 /* Arranges for it, unless the process has another place to record to, or its user wants none. The environment is known.
    Else only `library` has begun, and the allocator with the shadow if something was allocated. */
 void own_run_begin(void);
-/* Says why there is none, and ends the process with 98 then: nothing is unchecked by accident. The settings are read. */
+/* Says why there is none, and ends the process with 98 then: nothing is unchecked by accident. The settings are
+   read. */
 void own_run_say(void);
 
 #endif

@@ -105,7 +105,7 @@ static int end_once(int status)
     if (!is_root() || atomic_exchange(&has_asked, true))
         return STATUS_STAYS;
     if (dormant_has_lost()) {
-        recorder_say("the end was not checked: ", startup_name(), "a process that it has forked could not reach the run");
+        recorder_say("the end was not checked: ", startup_name(), "a process that it forked could not reach the run");
         return NOT_SEEN;
     }
     stream_hang_up();

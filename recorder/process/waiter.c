@@ -1,9 +1,9 @@
 /* Two sockets listen under names without a folder, for recordings and questions, and a pair leads to the program. A
-   child of the program has their other ends, in a session of its own, and no descriptor besides, except standard error
-   while the program lives. No signal says that it ends, and no call waits for it that does not ask for such children. Who
-   connects is accepted. The first bytes, on any of the connections, or the first question start asancol-run, which takes
-   all of them over. The program tells of its own end, and is answered by a byte if others are connected still: so no
-   zombie is left to a first process that minds none. */
+   child of the program has their other ends, in a session of its own, and no descriptor besides, except standard
+   error while the program lives. No signal says that it ends, and no call waits for it that does not ask for such
+   children. Who connects is accepted. The first bytes, on any of the connections, or the first question start
+   asancol-run, which takes all of them over. The program tells of its own end, and is answered by a byte if others
+   are connected still: so no zombie is left to a first process that minds none. */
 #define _GNU_SOURCE
 #include "process/waiter.h"
 
@@ -30,7 +30,7 @@
 #include "environment/hub_names.h"
 #include "environment/startup.h"
 
-/* So many connections wait in it. With more it begins. */
+/* At most this many connections wait in it. With more it begins. */
 enum { MOST_WAITING = 64 };
 
 enum { ASKING, HUB, ASKED, PROCESS, FIRST, MOST_POLLS = FIRST + MOST_WAITING };
@@ -38,7 +38,8 @@ enum { ASKING, HUB, ASKED, PROCESS, FIRST, MOST_POLLS = FIRST + MOST_WAITING };
 /* So long the children of forks are waited for that have begun, and may have been killed. */
 enum { PATIENCE_MS = 3000 };
 
-/* With one byte the program says that it ends, or that it wants to have no child. A question begins with another one. */
+/* With one byte the program says that it ends, or that it wants to have no child. A question begins with another
+   one. */
 enum { RETIRES = 'e', LEAVES = 'l' };
 
 /* Of the program until it has forked, and of the waiting process then. */
@@ -160,13 +161,13 @@ static void take_name(const struct waiter_command *command)
         room += strlen(*word) + 1;
     if (room > 0) {
         memset(words, 0, room);
-        strncpy(words, command->words[0], room - 1);
+        strncpy(words, command->argv[0], room - 1);
     }
-    system_call3(SYS_prctl, PR_SET_NAME, (long)command->words[0], 0);
+    system_call3(SYS_prctl, PR_SET_NAME, (long)command->argv[0], 0);
 }
 
-/* The numbers of its sockets: of the pair, or 0 if the program has closed its end, of the two that listen, and of who is
-   connected. */
+/* The numbers of its sockets: of the pair, or 0 if the program has closed its end, of the two that listen, and of
+   who is connected. */
 static void put_sockets(char *text, size_t room)
 {
     struct joined joined = {.text = text, .room = room};
@@ -221,10 +222,10 @@ static _Noreturn void become_run(const struct waiter_command *command)
         follow(peer.pid);
     dormant_is_served(waiter.shared);
     put_sockets(sockets, sizeof sockets);
-    command->words[command->sockets_at] = sockets;
+    command->argv[command->sockets_at] = sockets;
     int run = fork_quietly();
     if (run == 0) {
-        long error = system_call3(SYS_execve, (long)command->path, (long)command->words, (long)startup.variables);
+        long error = system_call3(SYS_execve, (long)command->path, (long)command->argv, (long)startup.variables);
         recorder_say("nothing is checked: ", command->path, error_text((int)-error));
         system_exit(1);
     }
@@ -328,8 +329,8 @@ static bool is_wanted(void)
     return false;
 }
 
-/* Whether the program and all that it has forked are gone. One may have closed all of its descriptors; one that executes
-   another program is over. */
+/* Whether the program and all that it has forked are gone. One may have closed all of its descriptors; one that
+   executes another program is over. */
 static bool is_over(void)
 {
     bool is_gone = waiter.polls[PROCESS].fd < 0 || atomic_load(&waiter.shared->becomes) != 0;

@@ -1,8 +1,8 @@
 /* The sockets of a program's own run, and the process that waits there to become asancol-run (own_run.h).
 
-   Called: waiter_begin by own_run.c and waiter_end by run_connection.c, at the start, in the only thread, not in a signal
-   handler; waiter_retire and waiter_reap by root.c, in the thread that ends the process, also in a handler. Lock: none
-   is taken. Memory comes from the system alone. */
+   Called: waiter_begin by own_run.c and waiter_end by run_connection.c, at the start, in the only thread, not in a
+   signal handler; waiter_retire and waiter_leave by run_connection.c and waiter_reap by root.c, in the thread that ends
+   the process or waits for its children, also in a handler. Lock: none is taken. Memory comes from the system alone. */
 #ifndef ASANCOL_WAITER_H
 #define ASANCOL_WAITER_H
 
@@ -11,10 +11,10 @@
 /* As long as the name of a hub is, with its zero. */
 enum { WAITER_NAME_ROOM = 64 };
 
-/* What it becomes: the path, the words with a null after them, and which of them is to name the sockets. */
+/* What it becomes: the path, the arguments, and which of them is to name the sockets. */
 struct waiter_command {
     const char *path;
-    const char **words;
+    const char **argv;
     size_t sockets_at;
 };
 

