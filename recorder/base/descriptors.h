@@ -20,8 +20,8 @@
 int descriptor_of_file(const char *path, int flags);
 int descriptor_of_socket(int type);
 int descriptor_of_memory(const char *name, unsigned flags);
-/* The connection of the stream, the memory beside it if that was not sent yet, the file of shadow/unused.c, the way to an
-   own run, and the hub's folder. */
+/* The connection of the stream, the memory beside it if that was not sent yet, the file of shadow/unused.c, the way to
+   an own run, and the hub's folder. */
 enum descriptor_kept { KEPT_STREAM, KEPT_SIDE, KEPT_UNUSED, KEPT_RUN, KEPT_FOLDER, DESCRIPTORS_KEPT };
 /* Moves one that is to be kept out of the way of those that the process opens, and answers where it is now. */
 int descriptor_moved_up(int descriptor);
