@@ -154,10 +154,12 @@ bench-scale: asancol recorder run
 	run/tests/bench_scale.py ./asancol
 
 # Recorded programs against an endless service, for as many hours: each has its verdict or a word, each planted bug is
-# found, and what serves does not grow. It prints a line a minute.
+# found, and what serves does not grow. It prints a line a minute. First 100,000 programs that check themselves, of which
+# half are killed: nothing is left of them.
 HOURS := 1
 
-soak: asancol recorder
+soak: asancol recorder run
+	run/tests/soak_own.py ./asancol
 	run/tests/soak.py --hours $(HOURS) ./asancol
 
 # What a run costs beside the same command without it: a minute, on a machine with nothing else to do.

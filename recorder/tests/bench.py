@@ -99,7 +99,7 @@ PROGRAMS = [
 ]
 
 # Each way to run a program: its build, and what its environment has besides.
-WAYS = ("native", "sanitizer", "framed", "off", "lean", "full", "run", "run-full")
+WAYS = ("native", "sanitizer", "framed", "off", "own", "lean", "full", "run", "run-full")
 RECORDED = WAYS[3:]
 SANITIZED = {"sanitizer": ["-fsanitize=address"], "framed": ["-fsanitize=address", "-fno-omit-frame-pointer"]}
 RUN = f"{TOP}/run/asancol-run"
@@ -166,6 +166,8 @@ def settings_for(path: str, program: Program, way: str, folder: str, asancol: st
     if way in ("full", "lean"):
         settings.update(ASANCOL_TRACE=f"{folder}/%p.trace", ASANCOL_WHERE="1", ASANCOL_FULL=str(int(way == "full")),
                         ASANCOL_LEAKS=str(int(program.has_leaks)), ASANCOL_QUARANTINE=str(program.quarantine_mb << 20))
+    if way == "own":
+        settings["ASANCOL_RUN"] = ""
     return settings
 
 
