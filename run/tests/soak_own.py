@@ -3,9 +3,9 @@
 
 usage: run/tests/soak_own.py [--programs N] [--workers N] [--seed S] ASANCOL
 
-A program that is not killed ends with its own status, or with 99 if it has a bug. A killed one ends by the signal, or as
-it would have. None with a bug ends with 0. Afterwards no process, no socket and no file of a run is left. The last line
-has the numbers, and the status is 1 if anything was not as it should be.
+A program that is not killed ends with its own status, or with 99 if it has a bug. A killed one ends by the signal, or
+as it would have. None with a bug ends with 0. Afterwards no process, no socket and no file of a run is left. The last
+line has the numbers, and the status is 1 if anything was not as it should be.
 """
 
 import argparse
@@ -61,7 +61,7 @@ def draw(source: random.Random) -> Start:
 
 
 def run_one(program: str, start: Start, settings: Dict[str, str]) -> str:
-    """Returns how it ended, and names what was wrong."""
+    """Returns how it ended, and names the mistake."""
     argv = [program, *([start.way] if start.way else [])]
     with subprocess.Popen(argv, env=settings, stdin=subprocess.DEVNULL, stdout=subprocess.DEVNULL,
                           stderr=subprocess.DEVNULL) as started:
