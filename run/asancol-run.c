@@ -75,6 +75,10 @@ static bool has_good_parent(const struct process *process)
 {
     const struct process *parent = process->parent > 0 ? process_of_peer(process->parent) : NULL;
     for (; parent != NULL; parent = process_next_of_peer(parent)) {
+        if (parent->is_quiet)
+            return true;
+        if (parent->first == NULL)
+            continue;
         struct outcome joined = segments_joined(parent);
         if (joined.has_checks && outcome_is_complete(&joined) && joined.signal == 0)
             return true;
@@ -312,7 +316,7 @@ static bool is_crash_of_asan(pid_t command, int status)
     if (signal != SIGSEGV && signal != SIGBUS && signal != SIGFPE)
         return false;
     for (; process != NULL; process = process_next_of_peer(process))
-        if (segments_joined(process).is_crash)
+        if (process->first != NULL && segments_joined(process).is_crash)
             return true;
     return false;
 }

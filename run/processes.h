@@ -66,7 +66,7 @@ enum source {
 };
 
 struct process {
-    struct segment *first; /* of those that have come, in their order; null: it has joined another process */
+    struct segment *first; /* of those that came, in their order; null: it has joined another process, or is quiet */
     uint32_t number;       /* process_number has it */
     enum source source;
     pid_t peer;                 /* as the system numbers it for us; 0: not known */
@@ -82,6 +82,7 @@ struct process {
     char *kept_prefix;          /* where its traces are kept, without what differs */
     bool is_summed_up;          /* all of its segments have come, and the outcome was said */
     bool is_among_more;         /* it is counted, since lines of it could not be kept */
+    bool is_quiet;   /* it had nothing to report, and has sent nothing (--held) */
     bool is_awaited; /* it has crashed or halted, its parent has waited for it, and the command has ended well */
 };
 

@@ -125,10 +125,16 @@ static bool goes_on(const struct process *process)
     return last->outcome.ending == ENDING_SEGMENT || (last->side != NULL && last->side->ending == ENDING_SEGMENT);
 }
 
+static void leave_out(struct process *process)
+{
+    process->first = NULL;
+    joined_count++;
+}
+
 void segments_leave_out(struct segment *segment)
 {
-    segment->process->first = NULL;
-    joined_count++;
+    segment->process->is_quiet = true;
+    leave_out(segment->process);
 }
 
 bool segments_take_empty(struct segment *segment)
@@ -139,7 +145,7 @@ bool segments_take_empty(struct segment *segment)
             last = other;
     if (last == NULL)
         return false;
-    segments_leave_out(segment);
+    leave_out(own);
     return true;
 }
 

@@ -2,7 +2,7 @@
 tests fail as with AddressSanitizer, and its logs have the same classes.
 
 The project is in the folder `switched`. Each job is a script for sh, which is run twice: with AddressSanitizer's
-compilers, and with asancol's and ASANCOL_RUN=1.
+compilers, and with asancol's alone.
 """
 
 import glob
@@ -93,8 +93,8 @@ AFL_OPTIONS = {it: "1" for it in ("AFL_NO_UI", "AFL_QUIET", "AFL_SKIP_CPUFREQ", 
                                   "AFL_NO_AFFINITY", "AFL_I_DONT_CARE_ABOUT_MISSING_CRASHES", "AFL_USE_ASAN")}
 
 GCC, CLANG = {"CC": "gcc", "CXX": "g++"}, {"CC": "clang", "CXX": "clang++"}
-OURS = {"CC": "asancol-cc", "CXX": "asancol-c++", "ASANCOL_RUN": "1"}
-OUR_CLANG = {"CC": "asancol-clang", "CXX": "asancol-clang++", "ASANCOL_RUN": "1"}
+OURS = {"CC": "asancol-cc", "CXX": "asancol-c++", "ASANCOL_RUN": ""}
+OUR_CLANG = {"CC": "asancol-clang", "CXX": "asancol-clang++", "ASANCOL_RUN": ""}
 
 JOBS = [
     Job("cmake", CMAKE, of_ctest, {**TESTS, "script": "failed", "death": "passed"}, ("cmake", "ctest"), GCC, OURS),
@@ -104,7 +104,7 @@ JOBS = [
     Job("make", MAKE, of_make, TESTS, ("make",), GCC, OURS),
     Job("cargo", CARGO, of_cargo, {"within": "passed", "fine": "passed", "overflow": "failed"}, ("cargo",),
         {"CARGO": "cargo +nightly", "RUSTFLAGS": "-Zsanitizer=address"},
-        {"CARGO": "asancol-cargo", "RUSTFLAGS": "-Zsanitizer=address", "ASANCOL_RUN": "1"}, False),
+        {"CARGO": "asancol-cargo", "RUSTFLAGS": "-Zsanitizer=address", "ASANCOL_RUN": ""}, False),
     Job("libFuzzer", LIBFUZZER, of_fuzzer, FUZZED, ("make", "clang"), CLANG, OUR_CLANG, False),
     Job("AFL++", AFL, of_fuzzer, FUZZED, ("make", "afl-clang-fast", "afl-fuzz"),
         {"CC": "afl-clang-fast", **AFL_OPTIONS},

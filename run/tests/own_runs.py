@@ -179,6 +179,9 @@ int main(int count, char **argv) {
         for (int i = 0; i < 100; i++)
             if (fork() == 0) return 0;
         while (wait(NULL) > 0) continue;
+    } else if (is(way, "death")) {
+        if (fork() == 0) past();
+        while (wait(NULL) > 0) continue;
     } else if (is(way, "closes")) {
         for (int i = atoi(argv[2]); i < 1000; i++) close(i);
         past();
@@ -287,6 +290,8 @@ def check_ways_out(suite: Suite, folder: str) -> None:
     expect_ran(run_alone(suite, program, "becomes", "/bin/false"), 1)
     expect_ran(run_alone(suite, program, "quickly", "3", ASAN_OPTIONS="exitcode=7"), 7, "AddressSanitizer: heap-buffer")
     expect_ran(run_alone(suite, program, "quickly", "3", ASANCOL_HALT="1"), 99, "heap-buffer-overflow")
+    expect_ran(run_alone(suite, program, "death", ASAN_OPTIONS="halt_on_error=1"), 0, "AddressSanitizer: heap-buffer")
+    expect_ran(run_alone(suite, program, "death", ASAN_OPTIONS="detect_leaks=0"), 99, "AddressSanitizer: heap-buffer")
 
 
 def check_afterwards(suite: Suite, folder: str) -> None:
