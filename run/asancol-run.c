@@ -443,7 +443,7 @@ int main(int count, char **argv)
         .seconds = now() - started,
         .command = command,
         .status = collected.status,
-        .nothing = sum.recorded + sum.marks == 0 && !nested.has_recorded,
+        .nothing = sum.recorded + sum.marks == 0 && !nested.has_recorded && !options.are_held,
         .missing = options.at_least > sum.recorded ? options.at_least - sum.recorded : 0,
         .is_running = collected.is_running,
         .has_timed_out = collected.has_timed_out,
