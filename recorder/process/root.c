@@ -66,7 +66,7 @@ static int ask_for_status(int status)
 void root_becomes(bool becomes)
 {
     static unsigned long slack_before;
-    if (!is_root() || !dormant_is_there())
+    if (!is_root() || !waiter_has_begun())
         return;
     const char *hub = recorder_hub();
     unsigned long slack = becomes ? (unsigned long)system_prctl(PR_GET_TIMERSLACK) : slack_before;

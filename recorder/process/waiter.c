@@ -52,6 +52,7 @@ static struct {
 } waiter = {.speaker = -1};
 
 static int own_end = -1, child;
+static bool has_begun;
 
 int waiter_end(void)
 {
@@ -245,19 +246,6 @@ static int byte_of(int connection)
     return count > 0 ? byte : count == -EAGAIN || count == -EINTR ? NOTHING_YET : OVER;
 }
 
-/* Answers false where there is no room for one more. */
-static bool accept_all(void)
-{
-    for (;;) {
-        if (waiter.count == MOST_POLLS)
-            return false;
-        long made = system_call4(SYS_accept4, waiter.polls[HUB].fd, 0, 0, SOCK_CLOEXEC);
-        if (made < 0)
-            return made == -EAGAIN || made == -EINTR || made == -ECONNABORTED;
-        waiter.polls[waiter.count++] = (struct pollfd){(int)made, POLLIN, 0};
-    }
-}
-
 /* Looks at who is connected, and forgets those that are gone. Answers whether one has sent something. */
 static bool have_bytes(void)
 {
@@ -273,6 +261,29 @@ static bool have_bytes(void)
         }
     }
     return false;
+}
+
+/* Without a free descriptor an accept fails also if nobody is there. */
+static bool is_called(void)
+{
+    struct pollfd listens = {waiter.polls[HUB].fd, POLLIN, 0};
+    return system_poll(&listens, 1, 0) > 0;
+}
+
+/* Accepts who has connected. Answers whether one has sent something, or there is no room for one more. */
+static bool accept_all(void)
+{
+    while (is_called()) {
+        size_t count = waiter.count;
+        long made = -EMFILE;
+        if (count < MOST_POLLS)
+            made = system_call4(SYS_accept4, waiter.polls[HUB].fd, 0, 0, SOCK_CLOEXEC);
+        if (made >= 0)
+            waiter.polls[waiter.count++] = (struct pollfd){(int)made, POLLIN, 0};
+        else if (made != -EAGAIN && made != -EINTR && made != -ECONNABORTED && (have_bytes() || waiter.count == count))
+            return true;
+    }
+    return have_bytes();
 }
 
 /* A copy goes on, as nobody's child. */
@@ -320,7 +331,7 @@ static void leave_program(void)
 /* Does what there is to do. Answers whether the run is wanted. */
 static bool is_wanted(void)
 {
-    if (!accept_all() || have_bytes() || waiter.polls[ASKED].revents != 0)
+    if (accept_all() || waiter.polls[ASKED].revents != 0)
         return true;
     if (waiter.polls[ASKING].revents != 0 && has_question())
         return true;
@@ -362,6 +373,11 @@ static int fork_waiter(const struct waiter_command *command)
         wait_for_need(command);
     }
     return child < 0 ? child : 0;
+}
+
+bool waiter_has_begun(void)
+{
+    return has_begun;
 }
 
 void waiter_retire(int connection)
@@ -419,5 +435,6 @@ const char *waiter_begin(const struct waiter_command *command, char hub[WAITER_N
         return error_text(-result);
     }
     dormant_begin(waiter.shared);
+    has_begun = true;
     return NULL;
 }

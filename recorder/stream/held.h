@@ -2,8 +2,8 @@
    connection is there, and with the first thing to say it goes on as any other.
 
    Called: held_is_wanted and held_begin by opening.c; held_send by that, sending.c, ending.c and keeping.c,
-   held_is_quiet by sending.c and ending.c: in the thread that has the stream's lock, or that starts the stream, also
-   in a handler. */
+   held_is_quiet by sending.c, ending.c and switching.c: in the thread that has the stream's lock, or that starts the
+   stream, also in a handler. */
 #ifndef ASANCOL_HELD_H
 #define ASANCOL_HELD_H
 

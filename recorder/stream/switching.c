@@ -13,6 +13,7 @@
 #include "base/self.h"
 #include "stream/ending.h"
 #include "stream/growing.h"
+#include "stream/held.h"
 #include "stream/holes.h"
 #include "stream/locked.h"
 #include "stream/keeping.h"
@@ -100,11 +101,13 @@ static bool leave_file(uint64_t cursor, unsigned window)
     return true;
 }
 
-/* Of a connection that is closed: there can be no close, and the unsent part is missing. */
-static bool leave_closed(uint64_t cursor)
+/* Of a connection that is closed: there can be no close, and the unsent part is missing. If nothing was sent, and there
+   was nothing to say, nobody knows of this segment. */
+static bool leave_closed(uint64_t cursor, bool *is_unknown)
 {
     growing_to((uint32_t)cursor);
     holes_check((uint32_t)cursor, plan.settings->limit, LONG);
+    *is_unknown = held_is_quiet();
     side_note_closed_off();
     side_note_ending(ENDING_SEGMENT, 0, locked.checked_events);
     tail_trim(locked.checked, ENDING_SEGMENT);
@@ -112,15 +115,15 @@ static bool leave_closed(uint64_t cursor)
 }
 
 /* The same. A hub may limit the number of connections, so this one ends first. What it has at its end
-   says that there has to be a next one. */
+   says that there has to be a next one, unless the hub has nothing of this one. */
 static bool leave_connection(uint64_t cursor, unsigned window)
 {
-    bool was_closed = output_is_closed(&locked.trace),
-         has_ended = was_closed ? leave_closed(cursor) : finish_segment(cursor);
+    bool is_unknown = false, was_closed = output_is_closed(&locked.trace),
+         has_ended = was_closed ? leave_closed(cursor, &is_unknown) : finish_segment(cursor);
     tail_leave();
     locked.has_side = false;
     locked.window = window;
-    locked.segment++;
+    locked.segment += !is_unknown;
     const char *why = has_ended ? opening_hub(plan.settings) : NULL;
     if (has_ended && why == NULL)
         return true;

@@ -68,6 +68,10 @@ def check_options(suite: Suite, folder: str) -> None:
     expect_ran(run_alone(suite, suite.program, "past", ASANCOL_RUN_OPTIONS="--exitcode 7 --format=asan"), 7,
                "AddressSanitizer: heap-buffer-overflow")
     expect_ran(run_alone(suite, suite.program, "sound", ASANCOL_RUN_OPTIONS="-v"), 0, "complete, 2 events, 0 reports")
+    program = make_lives(folder)
+    for way, status in (("place", 0), ("range", 99)):  # a program that it becomes is of the same run
+        ran = run_alone(suite, program, "calmly", program, way, ASANCOL_RUN_OPTIONS="-v")
+        expect_ran(ran, status, "continued as another program", absent=["INCOMPLETE"])
 
 
 # Runs each program with its words, as the process to which orphans come, and says how it ended and how many processes
@@ -164,6 +168,7 @@ LIVES = """
 #include <stdio.h>
 #include <stdlib.h>
 #include <string.h>
+#include <sys/syscall.h>
 #include <sys/wait.h>
 #include <unistd.h>
 static void past(void) { char *volatile block = malloc(8); block[8] = 1; }
@@ -185,6 +190,15 @@ int main(int count, char **argv) {
     } else if (is(way, "closes")) {
         for (int i = atoi(argv[2]); i < 1000; i++) close(i);
         past();
+    } else if (is(way, "range")) {
+        syscall(SYS_close_range, 3, ~0u, 0);
+        past();
+    } else if (is(way, "crowd")) {
+        pid_t children[100];
+        for (int i = 0; i < 100; i++)
+            if ((children[i] = fork()) == 0) for (;;) pause();
+        for (int i = 0; i < 100; i++) kill(children[i], SIGKILL);
+        while (wait(NULL) > 0) continue;
     } else if (is(way, "handles")) {
         sigset_t blocked, before;
         sigemptyset(&blocked);
@@ -221,8 +235,8 @@ int main(int count, char **argv) {
         write(1, text, length > 0 ? (size_t)length : 0);
         fprintf(stderr, "on error\\n");
         past();
-    } else if (is(way, "becomes")) {
-        past();
+    } else if (is(way, "becomes") || is(way, "calmly")) {
+        if (is(way, "becomes")) past();
         execvp(argv[2], argv + 2);
     } else if (is(way, "waits")) {
         past();
@@ -279,6 +293,13 @@ def check_closed(suite: Suite, folder: str) -> None:
     program = make_lives(folder)
     for first in ("3", "0"):
         expect_ran(run_alone(suite, program, "closes", first), 99, PAST, "1 process, ")
+    expect_ran(run_alone(suite, program, "range"), 99, PAST, "1 process, ", "all complete")
+
+
+def check_crowd(suite: Suite, folder: str) -> None:
+    """Many children that have nothing to report are nothing to report."""
+    ran = run_alone(suite, make_lives(folder), "crowd")
+    expect((ran.status, ran.err), (0, ""), "many children")
 
 
 def check_ways_out(suite: Suite, folder: str) -> None:
@@ -376,7 +397,9 @@ def check_habits(suite: Suite, folder: str) -> None:
         left = run_alone(suite, program, "leaves")
         expect_in(left.err, PAST)
         expect_not_in(left.err, "never connected")
-    expect_ran(run_alone(suite, "bash", "-c", f"ulimit -n 12; exec {program} sound"), 0, absent=["asancol"])
+    for limit in (8, 12):
+        ran = run_alone(suite, "bash", "-c", f"ulimit -n {limit}; exec {program} sound")
+        expect((ran.status, ran.err), (0, ""), f"{limit} descriptors")
     expect_ran(run_alone(suite, "bash", "-c", f"ulimit -n 12; exec {program} quickly 0"), 98, "too few descriptors",
                absent=[PAST])
     debugger = ["gdb", "-q", "-batch", "-ex", "run", "-ex", "quit", "--args"]
@@ -538,9 +561,9 @@ def tests(suite: Suite) -> None:
     for name, run in (
         ("statuses", check_statuses), ("leaks", check_leaks), ("without asancol-run", check_without),
         ("static", check_static), ("linked", check_linked), ("place", check_place), ("streams", check_streams),
-        ("closed", check_closed), ("ways out", check_ways_out), ("afterwards", check_afterwards),
-        ("ended", check_ended), ("ended at the verdict", check_ended_at_verdict), ("daemon", check_daemon),
-        ("habits", check_habits), ("names", check_names), ("shut off", check_shut_off),
+        ("closed", check_closed), ("crowd", check_crowd), ("ways out", check_ways_out),
+        ("afterwards", check_afterwards), ("ended", check_ended), ("ended at the verdict", check_ended_at_verdict),
+        ("daemon", check_daemon), ("habits", check_habits), ("names", check_names), ("shut off", check_shut_off),
         ("ended by UndefinedBehaviorSanitizer", check_undefined), ("options", check_options),
         ("nothing left", check_nothing_left), ("as it was", check_as_it_was),
     ):
