@@ -168,6 +168,13 @@ static bool make_words(struct waiter_command *command, const char *const *words)
     return command->argv != NULL;
 }
 
+/* Whether it can be executed, which no folder can. */
+static bool is_program(const char *path)
+{
+    struct stat seen;
+    return system_access(path, X_OK) == 0 && system_stat(path, &seen) == 0 && S_ISREG(seen.st_mode);
+}
+
 /* Looks for asancol-run: where the user says it is; else where it was at the link, beside the program, and in each
    folder of PATH. False: it is nowhere. */
 static bool find_run(char path[PATH_MAX], const char *wanted)
@@ -175,17 +182,17 @@ static bool find_run(char path[PATH_MAX], const char *wanted)
     struct joined joined = {.text = path, .room = PATH_MAX};
     if (wanted != NULL && strchr(wanted, '/') != NULL) {
         joined_add(&joined, wanted, PATH_MAX);
-        return !joined.is_cut && system_access(path, X_OK) == 0;
+        return !joined.is_cut && is_program(path);
     }
     joined_add(&joined, asancol_link_note.run, sizeof asancol_link_note.run);
-    if (joined.length > 0 && system_access(path, X_OK) == 0)
+    if (joined.length > 0 && is_program(path))
         return true;
     ssize_t length = system_readlink(OWN_FILE, path, PATH_MAX - 1);
     joined.length = length > 0 ? (size_t)length : 0;
     while (joined.length > 0 && path[joined.length - 1] != '/')
         joined.length--;
     joined_add(&joined, PROGRAM, sizeof PROGRAM);
-    if (length > 0 && !joined.is_cut && system_access(path, X_OK) == 0)
+    if (length > 0 && !joined.is_cut && is_program(path))
         return true;
     const char *at = value_of("PATH");
     for (at = at != NULL ? at : "/usr/local/bin:/usr/bin:/bin"; *at != 0; at += *at == ':') {
@@ -193,7 +200,7 @@ static bool find_run(char path[PATH_MAX], const char *wanted)
         joined = (struct joined){.text = path, .room = PATH_MAX};
         joined_add(&joined, at, of_folder);
         joined_add(&joined, "/" PROGRAM, sizeof PROGRAM + 1);
-        if (of_folder > 0 && !joined.is_cut && system_access(path, X_OK) == 0)
+        if (of_folder > 0 && !joined.is_cut && is_program(path))
             return true;
         at += of_folder;
     }

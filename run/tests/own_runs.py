@@ -49,6 +49,7 @@ def check_without(suite: Suite, folder: str) -> None:
     missing = "/nonexistent/asancol-run"
     refused(run_alone(suite, f"{folder}/m", ASANCOL_RUN=missing),
             f"asancol-run can't be executed at {missing}: install it, set ASANCOL_RUN to its path, or")
+    refused(run_alone(suite, f"{folder}/m", ASANCOL_RUN=f"{folder}/"), f"asancol-run can't be executed at {folder}/")
     write_text(f"{folder}/asancol-run", "")
     refused(run_alone(suite, f"{folder}/m", ASANCOL_RUN=f"{folder}/asancol-run"), "can't be executed")
     refused(run_alone(suite, "sh", "-c", f"ulimit -n 4; exec {folder}/m"), "Too many open files")
