@@ -1,25 +1,18 @@
 /* The settings that a run gives to the command are put where the answer of a run would be (orphan.h), so the
    environment of the program stays as it is: each program that it executes has a run of its own. With
    ASANCOL_RUN_OPTIONS there may be something to write also if nothing is found, so the run begins at once, and is asked
-   for the settings.
-
-   A program to which orphans come, such as the first process of a container, would have the run as its child: it
-   becomes the run, and is its child. */
+   for the settings. */
 #define _GNU_SOURCE
 #include "process/own_run.h"
 
-#include <errno.h>
-#include <fcntl.h>
 #include <limits.h>
-#include <signal.h>
 #include <stdbool.h>
 #include <string.h>
 #include <sys/mman.h>
-#include <sys/prctl.h>
+#include <sys/stat.h>
 #include <unistd.h>
 
 #include "base/digits.h"
-#include "base/errors.h"
 #include "base/platform.h"
 #include "base/say.h"
 #include "base/system.h"
@@ -48,7 +41,7 @@ extern int LLVMFuzzerTestOneInput(const unsigned char *, size_t) __attribute__((
 /* With which it ends if it cannot be checked. */
 enum { NOT_CHECKED = 98 };
 
-/* Why there is no run, with the path of one that could not be executed; null: there is one, or nobody wants one. */
+/* Why there is no run; null: there is one, or nobody wants one. */
 static const char *failure;
 static bool is_only_tried;
 
@@ -146,26 +139,28 @@ static size_t put_front(const char **list, struct waiter_command *command)
     return WORDS + !begins_at_once();
 }
 
-/* False: there is no memory. */
-static bool make_words(struct waiter_command *command, const char *const *words)
+/* Answers what went wrong, or null. */
+static const char *make_words(struct waiter_command *command, const char *const *words)
 {
     const char *list[MOST_FRONT + MOST_OPTIONS], *options = value_of("ASANCOL_RUN_OPTIONS");
     size_t at = put_front(list, command), of_words = 0;
     char *text = take_memory(options != NULL ? strlen(options) + 1 : 1);
     if (text == NULL)
-        return false;
-    if (options != NULL && split(strcpy(text, options), NULL) <= MOST_OPTIONS)
+        return NO_MEMORY;
+    if (options != NULL && split(strcpy(text, options), NULL) > MOST_OPTIONS)
+        return "ASANCOL_RUN_OPTIONS has more than 256 words";
+    if (options != NULL)
         at += split(text, list + at);
     list[at++] = "--";
     while (words[of_words] != NULL)
         of_words++;
     const char **all = take_memory((at + of_words + 1) * sizeof *all);
     if (all == NULL)
-        return false;
+        return NO_MEMORY;
     memcpy(all, list, at * sizeof *all);
     memcpy(all + at, words, of_words * sizeof *all);
     command->argv = copy_list(all, at + of_words);
-    return command->argv != NULL;
+    return command->argv != NULL ? NULL : NO_MEMORY;
 }
 
 /* Whether it can be executed, which no folder can. */
@@ -225,21 +220,29 @@ static const char *why_not_found(const char *wanted)
     return text;
 }
 
+/* Whether the options of AddressSanitizer name a log. */
+static bool has_log(void)
+{
+    static const char name[] = "log_path=";
+    const char *at = value_of("ASAN_OPTIONS");
+    while (at != NULL && *at != 0 && !begins_with(at, name))
+        at++;
+    return at != NULL && *at != 0;
+}
+
 /* The settings that asancol-run would give to its command. The text that it prints goes to the standard error of
    the program; a log has to be known by its options. */
 static void give_settings(const char *hub)
 {
     char text[SETTINGS_MOST] = "", digits[DIGITS_ROOM];
     struct stat seen;
-    const char *options = value_of("ASAN_OPTIONS");
-    bool is_log = options != NULL && strstr(options, "log_path=") != NULL;
     struct joined joined = {.text = text, .room = sizeof text};
     joined_add(&joined, "ASANCOL_HUB=", SETTINGS_MOST);
     joined_add(&joined, hub, WAITER_NAME_ROOM);
     joined_add(&joined, "\nASANCOL_ROOT=", SETTINGS_MOST);
     joined_add(&joined, put_digits(digits + sizeof digits, (uint64_t)system_getpid(), 1), sizeof digits);
     joined_add(&joined, "\nASANCOL_LEAKS=1", SETTINGS_MOST);
-    if (is_log) {
+    if (has_log()) {
         joined_add(&joined, "\nASANCOL_TEXT=log", SETTINGS_MOST);
     } else if (system_fstat(STDERR_FILENO, &seen) == 0) {
         joined_add(&joined, "\nASANCOL_TEXT=", SETTINGS_MOST);
@@ -254,9 +257,9 @@ static void give_settings(const char *hub)
 static const char *begin(struct waiter_command *command)
 {
     char hub[WAITER_NAME_ROOM];
-    if (!make_words(command, (const char *const *)startup.argv))
-        return NO_MEMORY;
-    const char *why = waiter_begin(command, hub);
+    const char *why = make_words(command, (const char *const *)startup.argv);
+    if (why == NULL)
+        why = waiter_begin(command, hub);
     if (why != NULL)
         return why;
     give_settings(hub);
