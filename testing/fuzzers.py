@@ -100,7 +100,7 @@ DRAWN = [
 
 # The parts of the stream.
 STREAM = ("state", "regions", "places", "watched", "stated", "opening", "growing", "keeping", "sending", "switching",
-          "holes", "ending", "output", "windows", "segments")
+          "holes", "held", "ending", "output", "windows", "segments")
 
 # Threads wait for others as long as it takes: on a busy machine one may sleep in the middle of a record for so long
 # that another one puts a record in its place, and both write there (holes.c). recorder/tests/exploring.py has the
@@ -123,6 +123,7 @@ SHARED = [
     Target("stream, and what stands beside it",
            [f"{OURS}/races.c",
             *(f"{RECORDER}/{it}.c" for it in ("base/descriptors", "base/errors", "base/memory", "environment/asking",
+                                              "environment/dormant", "environment/hub_folder",
                                               "environment/hub_names", "shadow/globals", "shadow/shadow",
                                               "stacks/stacks", "stacks/thread_notes", "stacks/walks")),
             *(f"{RECORDER}/stream/{it}.c" for it in (
@@ -188,7 +189,7 @@ def check_fuzzer(suite: Suite, folder: str, _libfuzzer: str, target: Target, sec
 
 def check_threads(suite: Suite, folder: str, compiler: str) -> None:
     """Four threads that write into a stream and into its segments, under ThreadSanitizer and under the others."""
-    sources = [f"{OURS}/threads.c", *(f"{RECORDER}/environment/{part}.c" for part in ("asking", "hub_names"))]
+    sources = [f"{OURS}/threads.c", *(f"{RECORDER}/environment/{part}.c" for part in ("asking", "dormant", "hub_names"))]
     sources += [f"{RECORDER}/base/{part}.c" for part in ("descriptors", "errors")]
     sources += [f"{RECORDER}/stream/{part}.c" for part in STREAM]
     for sanitizers in ("thread", SANITIZERS):

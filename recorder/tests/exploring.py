@@ -25,7 +25,7 @@ from testing.watch import LONGEST
 SOURCES = [f"{RECORDER}/stream/{it}.c" for it in ("state", "record", "regions", "places", "watched", "stated",
                                                   "stating",
                                                   "opening", "growing", "keeping", "sending", "switching",
-                                                  "suspending", "holes", "ending", "segments")]
+                                                  "suspending", "holes", "held", "ending", "segments")]
 SOURCES.append(f"{RECORDER}/heap/snapshot.c")
 WORLD, EXPLORER = f"{TESTS}/explore/world.c", f"{TESTS}/explore/explore.c"
 FLAGS = ["-std=gnu11", "-g", "-O1", "-D_GNU_SOURCE=", "-fno-strict-aliasing", "-iquote", RECORDER, "-iquote",

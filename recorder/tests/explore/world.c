@@ -35,6 +35,8 @@
 #include "stream/record.h"
 #include "stream/side.h"
 #include "stream/suspending.h"
+#include "environment/dormant.h"
+#include "environment/hub_folder.h"
 #include "stream/switching.h"
 #include "stream/windows.h"
 
@@ -160,6 +162,12 @@ void undisturbed_end(const struct disturbance *before)
 }
 bool own_place_is_at(const unsigned char *address, uint64_t cursor) { return address == NULL && cursor == 0; }
 void hub_word_note(const char *hub, const char *why) { (void)hub, (void)why; }
+void hub_folder_keep(const char *hub) { (void)hub; }
+bool dormant_is_there(void) { return false; }
+void dormant_note_lost(void) {}
+void dormant_wake(void) {}
+void dormant_await(void) {}
+int self_process(void) { return 1; }
 bool asan_options_check_call(const char *name) { return name != NULL; }
 void recorder_say(const char *what, const char *of, const char *why)
 {
@@ -181,6 +189,7 @@ void faults_begin(unsigned char *bytes, unsigned window)
     world.noted[window] = 0;
 }
 void side_forget(void) {}
+bool side_has_news(void) { return true; }
 void side_note_snapshot(uint64_t events) { (void)events; }
 void side_note_left_good(void) {}
 void side_note_finding_lost(void) {}
@@ -366,6 +375,12 @@ const char *output_open_file(struct output *output, const char *path, enum namin
     explore_changed();
     return NULL;
 }
+const char *output_open_plain(struct output *output, struct window window)
+{
+    output->bytes = window.bytes;
+    return NULL;
+}
+void output_keep_memory(struct output *memory) { (void)memory; }
 const char *output_connect(struct output *output, const char *path, bool has_abstract, struct window window,
                            int patience_ms)
 {

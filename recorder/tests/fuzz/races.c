@@ -36,6 +36,7 @@
 #include "stream/locked.h"
 #include "stream/near.h"
 #include "stream/opening.h"
+#include "stream/own_place.h"
 #include "stream/record.h"
 #include "stream/sending.h"
 #include "stream/side.h"
@@ -151,6 +152,8 @@ bool is_of_earlier_run(const char *path) { return path == NULL; }
 const char *startup_name(void) { return "races"; }
 void signal_take_away(int number) { (void)number; }
 void hub_word_note(const char *hub, const char *why) { (void)hub, (void)why; }
+bool own_place_is_at(const unsigned char *address, uint64_t cursor) { return address == NULL && cursor == 0; }
+bool stack_note_rights(uintptr_t start, size_t size, bool can_be_read) { return start == size && can_be_read; }
 void recorder_say(const char *what, const char *of, const char *why)
 {
     if (strstr(what, "left out") == NULL && strstr(what, "goes to") == NULL && strstr(what, "no close") == NULL)

@@ -36,6 +36,7 @@ void fake_frames_left(uintptr_t low, uintptr_t top)
 {
     (void)low, (void)top;
 }
+bool stack_note_rights(uintptr_t start, size_t size, bool can_be_read) { return start == size && can_be_read; }
 void init_order_ends(void) {}
 void fake_context_begins(uintptr_t low, uintptr_t top) { (void)low, (void)top; }
 bool recorder_is_own_process(void) { return true; }

@@ -16,6 +16,8 @@
 #include "environment/stale_trace.h"
 #include "environment/other_threads.h"
 #include "environment/hub_word.h"
+#include "environment/hub_folder.h"
+#include "stream/own_place.h"
 #include "stream/ending.h"
 #include "stream/faults.h"
 #include "stream/findings.h"
@@ -95,6 +97,11 @@ void signal_take_away(int number) { (void)number; }
 void undisturbed_begin(struct disturbance *before) { (void)before; }
 void undisturbed_end(const struct disturbance *before) { (void)before; }
 void hub_word_note(const char *hub, const char *why) { (void)hub, (void)why; }
+bool own_place_is_at(const unsigned char *address, uint64_t cursor) { return address == NULL && cursor == 0; }
+void hub_folder_keep(const char *hub) { (void)hub; }
+int hub_folder_connect(int socket, const char *name, int *patience_ms) { return (void)name, -socket - *patience_ms; }
+int self_process(void) { return 1; }
+bool side_has_news(void) { return true; }
 void recorder_say(const char *what, const char *of, const char *why)
 {
     if (strstr(what, "left out") == NULL)
