@@ -189,7 +189,8 @@ def check_fuzzer(suite: Suite, folder: str, _libfuzzer: str, target: Target, sec
 
 def check_threads(suite: Suite, folder: str, compiler: str) -> None:
     """Four threads that write into a stream and into its segments, under ThreadSanitizer and under the others."""
-    sources = [f"{OURS}/threads.c", *(f"{RECORDER}/environment/{part}.c" for part in ("asking", "dormant", "hub_names"))]
+    sources = [f"{OURS}/threads.c"]
+    sources += [f"{RECORDER}/environment/{part}.c" for part in ("asking", "dormant", "hub_names")]
     sources += [f"{RECORDER}/base/{part}.c" for part in ("descriptors", "errors")]
     sources += [f"{RECORDER}/stream/{part}.c" for part in STREAM]
     for sanitizers in ("thread", SANITIZERS):

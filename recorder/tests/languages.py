@@ -76,8 +76,9 @@ def report_of(suite: Suite, folder: str, traces: List[str]) -> str:
 
 
 def said_of(suite: Suite, folder: str, argv: List[str], status: int = 0, **settings: str) -> List[Said]:
-    """Runs a program, and returns what the report says of each bug. All of it was seen."""
-    ran = run(argv, folder, ASANCOL_TRACE="t%p.trace", ASANCOL_WHERE="1", **settings)
+    """Runs a program, and returns what the report says of each bug, except leaks. All of it was seen."""
+    ran = run(argv, folder, ASANCOL_TRACE="t%p.trace", ASANCOL_WHERE="1",
+              **{"ASANCOL_LEAKS": "1", **settings})
     expect(ran.returncode, status, f"{argv}: {ran.stderr.decode()}")
     traces = sorted(it for it in os.listdir(folder) if it.endswith(".trace"))
     text = report_of(suite, folder, traces)
@@ -85,7 +86,7 @@ def said_of(suite: Suite, folder: str, argv: List[str], status: int = 0, **setti
     for name in traces:
         os.unlink(f"{folder}/{name}")
         os.unlink(f"{folder}/{name}.where")
-    reports = re.split(r"^==\d+==", text, flags=re.M)[1:]
+    reports = [it for it in re.split(r"^==\d+==", text, flags=re.M)[1:] if "detected memory leaks" not in it]
     return [(found(TITLE, it), found(OWN_FRAME, it), END_OF_WHERE.sub(r"\1", found(WHERE, it))) for it in reports]
 
 
@@ -244,7 +245,7 @@ def check_rust_in_python(suite: Suite, folder: str) -> None:
     cargo(folder, "build", "-q")
     for count, status in ((3, 0), (2, 99)):
         argv = [sys.executable, "-c", FROM_PYTHON, built(folder, "debug", "libbug.so"), str(count)]
-        ran = run([RUN, "--preload", "--", *argv], folder, ASANCOL=suite.asancol)
+        ran = run([RUN, "--preload", "--", *argv], folder, ASANCOL=suite.asancol, PYTHONMALLOC="malloc")
         expect((ran.returncode, b"heap-buffer-overflow: load of 4 bytes\n    #0" in ran.stderr), (status, status != 0),
                f"{count}: {ran.stderr.decode()}")
 
