@@ -558,6 +558,35 @@ def check_undefined(suite: Suite, folder: str) -> None:
         expect_ran(run_alone(suite, program), 1, error, absent=["asancol"])
 
 
+HARNESS = """
+#include <sanitizer/asan_interface.h>
+#include <stdio.h>
+#include <stdlib.h>
+static char *volatile held;
+static __attribute__((noinline)) void lose(void) { held = malloc(24); held = NULL; }
+int main(void)
+{
+    void *frames[8];
+    int thread = 0;
+    held = malloc(8);
+    size_t made = __asan_get_alloc_stack(held, frames, 8, &thread);
+    free(held);
+    size_t freed = __asan_get_free_stack(held, frames, 8, &thread);
+    lose();
+    return printf("%d %d\\n", made > 1, freed > 1) < 0;
+}
+"""
+
+
+def check_harness(suite: Suite, folder: str) -> None:
+    """A harness gets the whole output of a program that leaks, which knows the stack traces of its blocks."""
+    write_text(f"{folder}/h.c", HARNESS)
+    call([CC, "-g", "h.c", "-o", "h"], cwd=folder, check=True)
+    ran = run_alone(suite, f"{folder}/h")
+    expect_ran(ran, 99, "24 byte(s)", "in lose")
+    expect(ran.out, "1 1\n", "what it printed to a pipe")
+
+
 def tests(suite: Suite) -> None:
     for name, run in (
         ("statuses", check_statuses), ("leaks", check_leaks), ("without asancol-run", check_without),
@@ -566,6 +595,6 @@ def tests(suite: Suite) -> None:
         ("afterwards", check_afterwards), ("ended", check_ended), ("ended at the verdict", check_ended_at_verdict),
         ("daemon", check_daemon), ("habits", check_habits), ("names", check_names), ("shut off", check_shut_off),
         ("ended by UndefinedBehaviorSanitizer", check_undefined), ("options", check_options),
-        ("nothing left", check_nothing_left), ("as it was", check_as_it_was),
+        ("nothing left", check_nothing_left), ("as it was", check_as_it_was), ("harness", check_harness),
     ):
         suite.test(f"own run: {name}", run)
