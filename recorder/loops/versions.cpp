@@ -14,7 +14,6 @@
    If there is to be one strip, `first` leads to `good`, and `done` to the exit: the test says no to a longer loop. */
 #include "loops/versions.hpp"
 
-#include <llvm/ADT/SmallPtrSet.h>
 #include <llvm/Analysis/ScalarEvolutionExpressions.h>
 #include <llvm/IR/MDBuilder.h>
 #include <llvm/IR/Module.h>
@@ -383,17 +382,15 @@ void versioning::check_by_call(Instruction &access)
     builder.CreateCall(function, {at, ConstantInt::get(half, size), ConstantInt::get(half, how)});
 }
 
-/* As AddressSanitizer's pass, once for each address in a block. */
+/* As AddressSanitizer's pass by our options: each access, also of an address that was checked before. */
 void versioning::check_rest(const std::function<void(Instruction &)> &mark)
 {
     for (BasicBlock *block : it.loop->blocks()) {
-        SmallPtrSet<const Value *, 8> checked_there;
         for (Instruction &access : *block) {
             auto *copy = dyn_cast_or_null<Instruction>(static_cast<Value *>(copies_of_rest.lookup(&access)));
             if (copy == nullptr || !has_check(access))
                 continue;
-            if (checked_there.insert(getLoadStorePointerOperand(&access)).second)
-                check_by_call(*copy);
+            check_by_call(*copy);
             mark(*copy);
         }
     }
