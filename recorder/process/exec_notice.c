@@ -19,6 +19,7 @@
 #include "environment/dormant.h"
 #include "environment/hub_names.h"
 #include "process/process.h"
+#include "process/root.h"
 #include "stream/side.h"
 #include "stream/state.h"
 #include "base/system.h"
@@ -143,9 +144,17 @@ unsigned exec_notice_leave(const struct target *target)
     if (path != NULL || may_be) {
         is_noted = has_hub && note_exec(target, path);
         is_left = recorder_before_exec();
+        if (is_left)
+            root_becomes(true);
     }
     side_end_calls(calls);
     return (is_left ? LEFT_RECORDING : 0) | (is_noted ? LEFT_WORD : 0);
+}
+
+void exec_notice_failed(void)
+{
+    root_becomes(false);
+    recorder_exec_failed();
 }
 
 void exec_notice_take_back(void)

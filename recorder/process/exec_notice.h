@@ -3,7 +3,7 @@
 
    Called: by the checks of the program's exec (exits.c), posix_spawn and wait (rows.h), by hooks.def, in any thread,
    also in a signal handler and in a child of vfork. Lock: the caller has none. exec_notice_leave takes the loader's for
-   a moment, and then the stream's with the allocator's, which it keeps up to the exec, or up to recorder_exec_failed if
+   a moment, and then the stream's with the allocator's, which it keeps up to the exec, or up to exec_notice_failed if
    that fails. The others take none. Nothing is allocated. */
 #ifndef ASANCOL_EXEC_NOTICE_H
 #define ASANCOL_EXEC_NOTICE_H
@@ -23,7 +23,8 @@ struct target {
 /* Before an exec: leaves the recording too. Answers what the caller has to take back if the exec fails: nothing if the
    system finds no such file. */
 unsigned exec_notice_leave(const struct target *target);
-enum { LEFT_RECORDING = 1 /* by recorder_exec_failed */, LEFT_WORD = 2 /* by exec_notice_take_back */ };
+enum { LEFT_RECORDING = 1 /* by exec_notice_failed */, LEFT_WORD = 2 /* by exec_notice_take_back */ };
+void exec_notice_failed(void);
 void exec_notice_take_back(void);
 /* Before a child is begun by posix_spawn. Answers whether exec_notice_child_number is to be called after that. */
 bool exec_notice_of_child(const struct target *target);

@@ -19,7 +19,6 @@
 #include "environment/dormant.h"
 #include "environment/orphan.h"
 #include "process/own_run.h"
-#include "process/root.h"
 #include "process/run_connection.h"
 #include "process/threads.h"
 #include "environment/hub_word.h"
@@ -355,9 +354,7 @@ static bool leave_for_exec(void)
     /* Nobody switches to another segment from here on. */
     heap_lock();
     enum state state = stream_state();
-    bool is_suspended = state == STATE_RECORDING && stream_suspend(generation);
-    root_becomes(true);
-    if (is_suspended)
+    if (state == STATE_RECORDING && stream_suspend(generation))
         return true;
     heap_unlock();
     if (state != STATE_AT_LIMIT)
@@ -377,7 +374,6 @@ bool recorder_before_exec(void)
 
 void recorder_exec_failed(void)
 {
-    root_becomes(false);
     if (stream_resume())
         heap_unlock();
 }

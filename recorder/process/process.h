@@ -5,7 +5,7 @@
    handler. All the others in any thread, also in a signal handler: to begin late, recorder_begin_late by halt.c,
    recorder_end_waiting by preload_wait.c, recorder_go_full by callbacks.c; to end, recorder_exit by start.c and
    hooks.c, recorder_finish by halt.c and root.c, recorder_finish_in_handler by the handler in signals.c alone; around
-   an exec, recorder_before_exec by exec_notice.c and recorder_exec_failed by exits.c. recorder_say_child by places.c
+   an exec, recorder_before_exec and recorder_exec_failed by exec_notice.c. recorder_say_child by places.c
    (`above`), recorder_say_who by preload_wait.c. The C library calls the three of a
    fork as its handlers, and exits.c around a fork of which it knows nothing. The rest are questions, of any file.
    Lock: the caller has none of the recorder's, except that recorder_say_child and the questions take none, and any may

@@ -4,7 +4,7 @@
    Called: root_end_by_signal and root_holds by signals.c, in the handler of a signal that ends the process, in any
    thread; root_end_at_exit by start.c, hooks.c and halt.c, when nothing is recorded any more, in the thread that
    ends the process, also in a handler; root_is_to_ask and root_quick_status by start.c, there too; root_becomes by
-   process.c, with the allocator's lock before an exec and without it after one that failed; root_note_quick_exit and
+   exec_notice.c, with the allocator's lock before an exec and after one that failed; root_note_quick_exit and
    root_has_no_child by the program (hooks.def). Lock: the caller has none; root_end_at_exit holds the allocator's
    while it asks, if there are other threads. */
 #ifndef ASANCOL_ROOT_H

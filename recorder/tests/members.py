@@ -10,7 +10,7 @@ from support import CC, RECORDER, Compiler, Suite, build, expect, reports, run, 
 from testing.programs import call
 
 # This many bytes may the smallest program have more than a plain one.
-MOST_MORE = 460_000
+MOST_MORE = 490_000
 
 # This many KB may be resident of a process that does little.
 MOST_RESIDENT = 8_000

@@ -42,8 +42,8 @@ MOST: Dict[str, Most] = {
     "trace": Most(119, 127, 25, 1, 23),
     "trace with faults": Most(144, 147, 39, 1, 40),
     "trace with faults and leaks": Most(169, 173, 63, 1, 40),
-    "hub": Most(115, 115, 37, 1, 40),
-    "hub and leaks": Most(140, 141, 61, 1, 40),
+    "hub": Most(120, 120, 40, 1, 40),
+    "hub and leaks": Most(145, 146, 64, 1, 40),
 }
 
 

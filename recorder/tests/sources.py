@@ -36,6 +36,7 @@ BESIDES = {
     "leaks/roots.o": {"dl_iterate_phdr", "_dl_get_tls_static_info"},
     "libc/library.o": {"dl_iterate_phdr", "vsnprintf", "stderr_stream", "optind", "_dl_get_tls_static_info",
                        "_thread_db_sizeof_pthread"},
+    "process/own_run.o": {"LLVMFuzzerTestOneInput"},
     "process/plain.o": {"dl_iterate_phdr", "dlsym", "dlvsym", "vsnprintf", "__start_asancol_stubs",
                         "__stop_asancol_stubs"},
     "process/process.o": {"__register_atfork"},
@@ -137,7 +138,7 @@ OF_A_PROCESSOR = re.compile(r"\b(asm|__asm__|__(x86_64|aarch64)__|[eix]mmintrin|
 # Where that stands. platform.h has what any compiler takes; Clang's header is for programs, and the wrapper is a
 # program of this machine, whichever it compiles for.
 PROCESSORS = ("base/x86_64", "base/aarch64", "base/processor", "base/platform.h", "clang_intrinsics.h", "wrapper/",
-              "tests/", "out/")
+              "start/program_mark.c", "tests/", "out/")
 
 
 def check_processors(suite: Suite, folder: str) -> None:
