@@ -6,6 +6,9 @@
 #ifndef ASANCOL_PROCESSOR_H
 #define ASANCOL_PROCESSOR_H
 
+#include <stdatomic.h>
+#include <stdbool.h>
+
 #if defined __x86_64__
 #include "base/x86_64.h"
 #elif defined __aarch64__
@@ -20,7 +23,7 @@
 extern _Atomic bool filters_are_there __asm__("asancol_filters_are_there") __attribute__((visibility("hidden")));
 long filtered_call(long number, long first, long second, long third, long fourth, long fifth, long sixth)
     __asm__("asancol_filtered_call") __attribute__((visibility("hidden"), cold));
-#define IS_FILTERED __builtin_expect(__atomic_load_n(&filters_are_there, __ATOMIC_RELAXED), 0)
+#define IS_FILTERED __builtin_expect(atomic_load_explicit(&filters_are_there, memory_order_relaxed), 0)
 #else
 #define IS_FILTERED 0
 #define filtered_call direct_call

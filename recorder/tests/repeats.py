@@ -25,7 +25,8 @@ def lines_with(word: str) -> Set[int]:
 
 
 def lines_found(suite: Suite, folder: str, *argv: str) -> Set[int]:
-    done = run([RUN, "--leaks=no", "--json", f"{folder}/found", "--", *argv], folder, ASANCOL=suite.asancol, ASANCOL_HALT="0")
+    options = ["--leaks=no", "--json", f"{folder}/found"]
+    done = run([RUN, *options, "--", *argv], folder, ASANCOL=suite.asancol, ASANCOL_HALT="0")
     expect((done.returncode, done.stdout), (99, b"done\n"), done.stderr.decode())
     with open(f"{folder}/found", encoding="utf-8") as file:
         found = [it for it in map(json.loads, file) if it["type"] == "finding"]
