@@ -406,7 +406,7 @@ def check_mistakes(suite: Suite, folder: str) -> None:
     library = call(["gcc", "-print-file-name=libasan.so"], stdout=subprocess.PIPE, text=True, check=True).stdout.strip()
     if library != "libasan.so":
         ran = suite.run("--", "env", f"LD_PRELOAD={library}", suite.program, "sound", ASANCOL_REPORT=REPORT)
-        expect_ran(ran, 98, "asancol: libasan.so.", " was in a process: ", "is it in LD_PRELOAD?")
+        expect_ran(ran, 1, "asancol: libasan.so.", " was in a process: ", "is it in LD_PRELOAD?")
 
 
 def table() -> List[Tuple[str, str, str]]:

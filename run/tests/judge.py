@@ -190,8 +190,8 @@ def check_late_death(suite: Suite, folder: str) -> None:
 
 def check_crashes(suite: Suite, folder: str) -> None:
     """What counts as a crash stands in C and in Python."""
-    numbers = re.search(r"crashes\[\] = \{(.*?)\}", read("run/verdict.c"))
-    expect(numbers and numbers[1].split(", "), [signal.Signals(it).name for it in CRASHES], "signals of crashes")
+    numbers = re.findall(r"number == (SIG\w+)", read("common/crash.h"))
+    expect(numbers, [signal.Signals(it).name for it in CRASHES], "signals of crashes")
 
 
 # What a checker prints last, and the fate, the events, the offset and the reports of it; or nothing, if it is no such
