@@ -191,6 +191,11 @@ bool orphan_ask_at(const char *hub)
     return take_settings(hub, NULL) && given.text[0] != 0;
 }
 
+bool orphan_is_in_the_way(void)
+{
+    return given.in_the_way != NULL;
+}
+
 void orphan_give(const char *lines)
 {
     size_t length = strlen(lines);

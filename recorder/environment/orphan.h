@@ -17,6 +17,8 @@
 void orphan_ask(void);
 /* The same of this run. False: it gives none. */
 bool orphan_ask_at(const char *hub);
+/* Whether there is a run that gives this process no settings. */
+bool orphan_is_in_the_way(void);
 /* What that run would answer, in lines. */
 void orphan_give(const char *lines);
 /* What the run has said of a setting, or null. */

@@ -65,7 +65,7 @@ static bool has_output(void)
     if (hub != NULL)
         return value_of("ASANCOL_ROOT") == NULL || is_asked_at(hub);
     orphan_ask();
-    return orphan_value("ASANCOL_HUB") != NULL;
+    return orphan_value("ASANCOL_HUB") != NULL || orphan_is_in_the_way();
 }
 
 #define OWN_FILE "/proc/self/exe"
@@ -282,12 +282,10 @@ void own_run_begin(void)
     static char path[PATH_MAX];
     struct waiter_command command = {.path = path};
     const char *wanted = value_of("ASANCOL_RUN");
-    if (IS_PRELOADED || startup.argv == NULL || is_refused(wanted) || (!startup.is_set_user && has_output()))
+    if (IS_PRELOADED || startup.argv == NULL || startup.is_set_user || is_refused(wanted) || has_output())
         return;
     is_only_tried = wanted != NULL && strcmp(wanted, "try") == 0;
-    if (startup.is_set_user)
-        failure = "it is set-user-ID or set-group-ID, so it starts no asancol-run: set ASANCOL_RUN=0 to run unchecked";
-    else if (!find_run(path, wanted))
+    if (!find_run(path, wanted))
         failure = why_not_found(wanted);
     else
         failure = begin(&command);

@@ -9,6 +9,7 @@
 #include <unistd.h>
 
 #include "base/disturbance.h"
+#include "base/filters.h"
 #include "base/platform.h"
 #include "base/say.h"
 #include "base/self.h"
@@ -27,6 +28,7 @@
 #include "stacks/thread_notes.h"
 #include "stacks/walks.h"
 #include "stream/ending.h"
+#include "stream/held.h"
 #include "stream/keeping.h"
 #include "stream/opening.h"
 #include "stream/sending.h"
@@ -370,6 +372,13 @@ bool recorder_before_exec(void)
     bool is_left = leave_for_exec();
     side_end_calls(calls);
     return is_left;
+}
+
+const struct filter *recorder_before_filter(bool is_strict, const void *program)
+{
+    if (recorder_is_own_process())
+        held_end();
+    return filters_copy(is_strict, program);
 }
 
 void recorder_exec_failed(void)

@@ -26,6 +26,15 @@ bool held_is_quiet(void)
     return locked.is_held && !has_records && !side_has_news();
 }
 
+void held_end(void)
+{
+    if (!dormant_is_there() || !stream_lock_at_once())
+        return;
+    if (locked.is_held && is_on())
+        held_send();
+    stream_unlock();
+}
+
 const char *held_send(void)
 {
     int files[SIDE_FILES], patience_ms = plan.settings->patience_ms;

@@ -15,6 +15,8 @@ bool held_is_wanted(void);
 void held_begin(void);
 /* Whether it is held, and has nothing to say so far. */
 bool held_is_quiet(void);
+/* If it is held, it is sent now: the process may be unable to later. It takes the stream's lock, if it is free. */
+void held_end(void);
 /* Sends the first bytes of a stream, and what stands beside it. Answers null, or what went wrong. */
 const char *held_send(void);
 

@@ -77,10 +77,8 @@ def check_rights(_, folder, compiler, flags):
         call([tool, *words, f"{folder}/it"], check=True)
         for settings in SETTINGS:
             for others in ({}, {"LD_PRELOAD": "/x"}, unsecure):
-                seen = ran_as(65534, folder, {"ASANCOL_RUN": "0", **others, **settings})
+                seen = ran_as(65534, folder, {**others, **settings})
                 expect(seen, ((0, b"1\n", b""), set()), f"{way}, with {[*others, *settings]}")
-        refused = ran_as(65534, folder, {})[0]
-        expect((refused[0], b"starts no asancol-run" in refused[2]), (98, True), f"{way}: {refused}")
 
 
 def tests(suite, compiler):

@@ -177,7 +177,7 @@ def check_gone_of_known_user(suite: Suite, folder: str) -> None:
 MARKED = """
 import ctypes, os, sys
 ctypes.CDLL(None).prctl(29, int(sys.argv[1]))
-os.execve(sys.argv[2], sys.argv[2:], {})
+os.execve(sys.argv[2], sys.argv[2:], {"ASANCOL_RUN": "0"})
 """
 
 
