@@ -5,10 +5,10 @@
    Known are the filters that the process installs by prctl, or by `syscall` and `seccomp`, while it is recorded; not
    those that it has inherited from another program.
 
-   Called: filtered_call by the calls of the system (processor.h); filters_copy and filters_end by exits.c and the row
-   of prctl (hooks.def), before and after the program's call; filters_own and filters_inherit by process/threads.c,
-   where a thread is created and begins; in any thread, also in a signal handler. Lock: none: a thread has its own list,
-   and the list of all is one atomic pointer. Memory comes from the system. */
+   Called: filtered_call by the calls of the system (processor.h); filters_copy by process/process.c and filters_end
+   by exits.c and the row of prctl (hooks.def), before and after the program's call; filters_own and filters_inherit
+   by process/threads.c, where a thread is created and begins; in any thread, also in a signal handler. Lock: none: a
+   thread has its own list, and the list of all is one atomic pointer. Memory comes from the system. */
 #ifndef ASANCOL_FILTERS_H
 #define ASANCOL_FILTERS_H
 

@@ -67,7 +67,7 @@ void recorder_finish_in_handler(int number);
 bool recorder_before_exec(void);
 /* The exec has failed: the stream continues. */
 void recorder_exec_failed(void);
-/* The program is about to install a filter of system calls: filters_copy (filters.h), after what the filter may refuse. */
+/* The program is about to install a filter of system calls: filters_copy, after what the filter may refuse. */
 struct filter;
 const struct filter *recorder_before_filter(bool is_strict, const void *program);
 

@@ -3,7 +3,7 @@
 
    Called: held_is_wanted and held_begin by opening.c; held_send by that, sending.c, ending.c and keeping.c,
    held_is_quiet by sending.c, ending.c and switching.c: in the thread that has the stream's lock, or that starts the
-   stream, also in a handler. */
+   stream, also in a handler; held_end by process/process.c, without it. */
 #ifndef ASANCOL_HELD_H
 #define ASANCOL_HELD_H
 

@@ -6,7 +6,7 @@ import shutil
 import signal
 import subprocess
 import time
-from typing import Any, List
+from typing import Any
 
 from support import (
     CC, REPORT, RUN, Ran, Suite, compilers_there, expect, expect_in, expect_not_in, expect_ran, leave_out, wait_until,
