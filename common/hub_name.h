@@ -41,6 +41,12 @@ enum { MARK_SHORT_PROGRAM = 40 };
 #define ASK_REPORT "report"
 enum { ASK_MOST = 512, SETTINGS_MOST = 8192 };
 
+/* The connection of a program to its own run, whether that has begun or not, takes these bytes too. The program ends,
+   and has no question: it gets the byte back if its forked processes are connected. It wants to have no child: the byte
+   comes back once it has none. A connection of one of its processes comes with the byte: its end of a pair, where no
+   name of a socket is reached, as from another network. */
+enum { OWN_RETIRES = 'e', OWN_LEAVES = 'l', OWN_PASSES = 'c' };
+
 /* How many of its first bytes everybody may know: a secret follows a last dash in the folder of a run. The name of a
    socket without a folder begins with its only slash. */
 static inline size_t hub_public_bytes(const char *hub)

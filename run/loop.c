@@ -185,7 +185,7 @@ static bool accept_one(int listener)
     return true;
 }
 
-/* Those that were accepted before this run began. */
+/* Those that were accepted before this run began, or that the served program has passed on. */
 static void take_accepted(void)
 {
     struct ucred peer;
@@ -369,6 +369,7 @@ static void wait_once(double seconds)
     report_send();
     asking_take(polls + ASKING);
     take_end_of_served();
+    take_accepted();
     start_arrivals(polls[ARRIVALS].revents != 0);
     take_held(polls[HELD].revents != 0, !accepts);
     for (int i = 0; i < HUB_LISTENERS; i++)

@@ -13,6 +13,7 @@
 #include <unistd.h>
 
 #include "children.h"
+#include "common/hub_name.h"
 #include "deaths.h"
 #include "hub.h"
 
@@ -23,8 +24,9 @@ static struct {
     int asked;    /* the same once it waits there, or -1 */
     int status;   /* with which it ends, once it has asked */
     const char *sockets; /* those that were not taken yet */
+    int passed;          /* a connection that came over the program's own, or -1 */
     bool has_asked, is_over;
-} served = {.process = -1, .asking = -1, .asked = -1};
+} served = {.process = -1, .asking = -1, .asked = -1, .passed = -1};
 
 /* The next number of the list, or -1 at its end. */
 static int next_socket(void)
@@ -54,7 +56,9 @@ void serving_begin(pid_t number, const char *sockets)
 
 int serving_next_connection(void)
 {
-    return served.sockets != NULL ? next_socket() : -1;
+    int passed = served.passed;
+    served.passed = -1;
+    return passed >= 0 || served.sockets == NULL ? passed : next_socket();
 }
 
 bool serving_is_on(void)
@@ -80,12 +84,37 @@ static void take_question(const char *text)
     served.has_asked = true;
 }
 
+/* The descriptor that came with a byte, or -1. */
+static int passed_with(struct msghdr *message)
+{
+    int passed = -1;
+    struct cmsghdr *header = CMSG_FIRSTHDR(message);
+    if (header != NULL && header->cmsg_type == SCM_RIGHTS && header->cmsg_len == CMSG_LEN(sizeof passed))
+        memcpy(&passed, CMSG_DATA(header), sizeof passed);
+    return passed;
+}
+
+/* What comes there besides questions (common/hub_name.h): the program is told that this run goes on. */
+static void take_word(char word, int passed)
+{
+    const char answer = OWN_RETIRES;
+    if (word == OWN_PASSES && passed >= 0)
+        served.passed = passed;
+    else
+        send(served.asking, &answer, 1, MSG_NOSIGNAL | MSG_DONTWAIT);
+}
+
 /* Looks where it asks. The connection may have come to an end, as by an exec. */
 static void look_for_question(void)
 {
-    char text[64];
-    ssize_t length = served.asking >= 0 ? recv(served.asking, text, sizeof text - 1, MSG_DONTWAIT) : -1;
-    if (length > 0) {
+    char text[64], control[CMSG_SPACE(sizeof(int))];
+    struct iovec piece = {text, sizeof text - 1};
+    struct msghdr message = {
+        .msg_iov = &piece, .msg_iovlen = 1, .msg_control = control, .msg_controllen = sizeof control};
+    ssize_t length = served.asking >= 0 ? recvmsg(served.asking, &message, MSG_DONTWAIT | MSG_CMSG_CLOEXEC) : -1;
+    if (length > 0 && text[0] != '\n') {
+        take_word(text[0], passed_with(&message));
+    } else if (length > 0) {
         text[length] = 0;
         take_question(text);
     } else if (served.asking >= 0 && (length == 0 || (errno != EAGAIN && errno != EINTR))) {

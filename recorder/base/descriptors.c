@@ -131,6 +131,12 @@ static bool is_kept(int descriptor, int which)
            && seen.st_dev == atomic_load(&kept[which].device) && seen.st_ino == atomic_load(&kept[which].node);
 }
 
+int descriptor_kept(enum descriptor_kept which)
+{
+    int descriptor = atomic_load(&kept[which].number) - 1;
+    return descriptor >= 0 && is_kept(descriptor, (int)which) ? descriptor : -1;
+}
+
 int descriptor_shown(int descriptor)
 {
     for (int i = 0; i < DESCRIPTORS_KEPT; i++)

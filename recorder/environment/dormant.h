@@ -4,8 +4,9 @@
 
    Called: dormant_begin by waiter.c and own_run.c at the start, dormant_is_served by waiter.c in the process that
    becomes the run; dormant_note_exec by root.c before an exec and after one that has failed, dormant_note_fork and
-   dormant_note_forked by process.c around a fork; the rest by stream/, exec_notice.c and root.c, in any thread, also in
-   a handler. No lock: the words are atomic. */
+   dormant_note_forked by process.c around a fork; dormant_connect by output.c, and dormant_has_passed by
+   run_connection.c, in a forked child; the rest by stream/, exec_notice.c and root.c, in any thread, also in a
+   handler. No lock: the words are atomic. */
 #ifndef ASANCOL_DORMANT_H
 #define ASANCOL_DORMANT_H
 
@@ -29,6 +30,10 @@ bool dormant_is_asleep(void);
 /* A fork begins; and its child is connected, or there is none. */
 void dormant_note_fork(void);
 void dormant_note_forked(void);
+/* Connects over the connection that the program has to it, where no name is reached: a forked child has that until it
+   is connected. Answers a descriptor, or an error. And whether it did: then its own children need it, too. */
+int dormant_connect(void);
+bool dormant_has_passed(void);
 /* This process can't reach it; and whether that was so of any. */
 void dormant_note_lost(void);
 bool dormant_has_lost(void);

@@ -20,19 +20,14 @@
 
 #define OPEN_FOLDER "/proc/self/fd/"
 
-/* The process may close it, and open another one with its number. */
-static struct {
-    int number; /* and one more; 0: none */
-    dev_t device;
-    ino_t node;
-} kept;
+static bool is_kept;
 
 void hub_folder_keep(const char *hub)
 {
     char path[sizeof((struct sockaddr_un *)0)->sun_path];
     const char *slash = strrchr(hub, '/');
     struct stat seen;
-    if (kept.number != 0 || slash == NULL || slash == hub || (size_t)(slash - hub) >= sizeof path)
+    if (is_kept || slash == NULL || slash == hub || (size_t)(slash - hub) >= sizeof path)
         return;
     memcpy(path, hub, (size_t)(slash - hub));
     path[slash - hub] = 0;
@@ -43,25 +38,16 @@ void hub_folder_keep(const char *hub)
     if (system_fstat(made, &seen) != 0)
         return;
     descriptor_keep(KEPT_FOLDER, made, &seen);
-    kept.device = seen.st_dev;
-    kept.node = seen.st_ino;
-    kept.number = made + 1;
-}
-
-static bool is_there(void)
-{
-    struct stat seen;
-    return kept.number != 0 && system_fstat(kept.number - 1, &seen) == 0 && seen.st_dev == kept.device
-           && seen.st_ino == kept.node;
+    is_kept = true;
 }
 
 /* No handler runs while the current folder is another one. */
-static int connect_inside(int socket, const struct sockaddr_un *address, socklen_t length)
+static int connect_inside(int folder, int socket, const struct sockaddr_un *address, socklen_t length)
 {
     struct disturbance before;
     undisturbed_begin(&before);
     int back = system_open(".", O_PATH | O_DIRECTORY | O_CLOEXEC, 0);
-    int result = back < 0 ? back : (int)system_call3(SYS_fchdir, kept.number - 1, 0, 0);
+    int result = back < 0 ? back : (int)system_call3(SYS_fchdir, folder, 0, 0);
     if (result == 0) {
         result = system_connect(socket, address, length);
         system_call3(SYS_fchdir, back, 0, 0);
@@ -78,15 +64,16 @@ int hub_folder_connect(int socket, const char *hub, int *patience_ms)
     struct sockaddr_un address;
     char path[sizeof address.sun_path] = OPEN_FOLDER, digits[DIGITS_ROOM];
     const char *name = strrchr(hub, '/');
-    if (name == NULL || !is_there() || strlen(name) >= sizeof path - sizeof OPEN_FOLDER - DIGITS_ROOM)
+    int folder = descriptor_kept(KEPT_FOLDER);
+    if (name == NULL || folder < 0 || strlen(name) >= sizeof path - sizeof OPEN_FOLDER - DIGITS_ROOM)
         return -ENOENT;
-    strcat(path, put_digits(digits + sizeof digits, (unsigned)kept.number - 1, 1));
+    strcat(path, put_digits(digits + sizeof digits, (unsigned)folder, 1));
     strcat(path, name);
     int result = connect_patiently(socket, &address, hub_socket(&address, path, false), patience_ms);
     if (result == 0 || has_other_threads())
         return result;
     socklen_t length = hub_socket(&address, name + 1, false);
-    while ((result = connect_inside(socket, &address, length)) == -EAGAIN && *patience_ms > 0) {
+    while ((result = connect_inside(folder, socket, &address, length)) == -EAGAIN && *patience_ms > 0) {
         *patience_ms -= NAP_MS;
         system_poll(NULL, 0, NAP_MS);
     }

@@ -127,15 +127,15 @@ static bool look_from(uintptr_t frame)
     struct search search = {.frame = frame};
     struct disturbance before;
     if (heap_is_entered()) {
-        search.why = "a signal interrupted the allocator";
+        search.why = "a signal interrupted the allocator"; /* which a correct program may do: it is said, and no more */
     } else {
         _Atomic uint64_t *calls = side_begin_calls(false);
         undisturbed_begin(&before);
         search_all(&search);
         undisturbed_end(&before);
         side_end_calls(calls);
+        side_note_leaks_missed(search.why != NULL);
     }
-    side_note_leaks_missed(search.why != NULL);
     if (search.why != NULL)
         recorder_say("leaks are not looked for: ", startup_name(), search.why);
     note(&search.lost);

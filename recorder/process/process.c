@@ -457,7 +457,6 @@ void recorder_child_begins(void)
     walks_are_alone();
     say_again();
     stream_forget();
-    run_connection_forget();
     stream_unlock();
     undisturbed_begin(&before);
     if (recorded && why_unrecorded() != NULL) {
@@ -468,6 +467,7 @@ void recorder_child_begins(void)
     if (!recorded || !begin(HELD_BY_CHILD)) {
         be_idle();
     }
+    run_connection_forget();
     dormant_note_forked();
     undisturbed_end(&before);
     heap_unlock();

@@ -9,6 +9,7 @@
 #include "base/system.h"
 #include "common/hub_name.h"
 #include "environment/asking.h"
+#include "environment/dormant.h"
 #include "process/waiter.h"
 
 /* Written in the first thread before there is another, and in a forked child; read by who asks. */
@@ -34,6 +35,9 @@ void run_connection_begin(const char *hub)
     kept.connection = made;
     kept.device = seen.st_dev;
     kept.node = seen.st_ino;
+#ifdef IS_STATIC
+    run_connection_leave(dormant_is_asleep()); /* the program's waits are not seen, so it has no child */
+#endif
 }
 
 static bool is_there(void)
@@ -45,9 +49,11 @@ static bool is_there(void)
 
 void run_connection_forget(void)
 {
-    descriptor_drop(KEPT_RUN);
-    if (is_there())
+    bool closes = is_there() && !dormant_has_passed();
+    if (closes)
         system_close(kept.connection);
+    if (closes || descriptor_kept(KEPT_RUN) < 0)
+        descriptor_drop(KEPT_RUN);
     kept.connection = -1;
 }
 

@@ -20,6 +20,7 @@
 #include <sys/wait.h>
 #include <unistd.h>
 
+#include "base/descriptors.h"
 #include "base/digits.h"
 #include "base/errors.h"
 #include "base/platform.h"
@@ -37,10 +38,6 @@ enum { ASKING, HUB, ASKED, PROCESS, FIRST, MOST_POLLS = FIRST + MOST_WAITING };
 
 /* So long the children of forks are waited for that have begun, and may have been killed. */
 enum { PATIENCE_MS = 3000 };
-
-/* With one byte the program says that it ends, or that it wants to have no child. A question begins with another
-   one. */
-enum { RETIRES = 'e', LEAVES = 'l' };
 
 /* Of the program until it has forked, and of the waiting process then. */
 static struct {
@@ -289,32 +286,46 @@ static bool accept_all(void)
 /* A copy goes on, as nobody's child. */
 static void become_copy(void)
 {
-    char answer = LEAVES;
+    char answer = OWN_LEAVES;
     int copy = fork_quietly();
     if (copy > 0)
         system_exit(0);
     system_send(waiter.polls[ASKING].fd, copy == 0 ? &answer : "", 1, MSG_NOSIGNAL);
 }
 
-/* Answers whether the program has a question. */
+/* The program ends. */
+static void retire(void)
+{
+    char answer = OWN_RETIRES;
+    if (waiter.count == FIRST && atomic_load(&waiter.shared->forking) == 0)
+        system_exit(0);
+    system_send(waiter.polls[ASKING].fd, &answer, 1, MSG_NOSIGNAL);
+}
+
+/* Answers whether the program has a question, or there is no room for a connection. */
 static bool has_question(void)
 {
+    char taken;
     int byte = byte_of(waiter.polls[ASKING].fd);
     if (byte == OVER) {
         system_close(waiter.polls[ASKING].fd);
         waiter.polls[ASKING].fd = -1;
     }
-    if (byte != RETIRES && byte != LEAVES)
-        return byte >= 0;
-    char answer = RETIRES;
-    system_read(waiter.polls[ASKING].fd, &answer, 1);
-    if (byte == LEAVES) {
-        become_copy();
-        return false;
+    if (byte == OWN_PASSES) {
+        if (waiter.count == MOST_POLLS)
+            return true;
+        int passed = descriptor_of_message(waiter.polls[ASKING].fd);
+        if (passed >= 0)
+            waiter.polls[waiter.count++] = (struct pollfd){passed, POLLIN, 0};
+        return passed >= 0 && have_bytes();
     }
-    if (waiter.count == FIRST && atomic_load(&waiter.shared->forking) == 0)
-        system_exit(0);
-    system_send(waiter.polls[ASKING].fd, &answer, 1, MSG_NOSIGNAL);
+    if (byte != OWN_RETIRES && byte != OWN_LEAVES)
+        return byte >= 0;
+    system_read(waiter.polls[ASKING].fd, &taken, 1);
+    if (byte == OWN_LEAVES)
+        become_copy();
+    else
+        retire();
     return false;
 }
 
@@ -380,28 +391,29 @@ bool waiter_has_begun(void)
     return has_begun;
 }
 
+/* Sends a byte, and answers the one that comes back; or OVER: the other end is gone. */
+static int ask_byte(int connection, char byte)
+{
+    long count = system_send(connection, &byte, 1, MSG_NOSIGNAL);
+    while (count == 1 && (count = system_read(connection, &byte, 1)) == -EINTR)
+        count = 1; /* by a handler of the program's */
+    return count == 1 ? byte : count == 0 || count == -EPIPE || count == -ECONNRESET ? OVER : NOTHING_YET;
+}
+
 void waiter_retire(int connection)
 {
-    char answer = RETIRES;
-    if (system_send(connection, &answer, 1, MSG_NOSIGNAL) == 1 && system_read(connection, &answer, 1) <= 0)
+    if (ask_byte(connection, OWN_RETIRES) == OVER)
         wait_for(child);
 }
 
 void waiter_leave(int connection)
 {
-    char answer = LEAVES;
-    bool is_left = connection < 0;
     if (child <= 0)
         return;
-    if (is_left)
-        system_call3(SYS_kill, child, SIGKILL, 0); /* it only waits for the run */
-    else
-        is_left = system_send(connection, &answer, 1, MSG_NOSIGNAL) == 1 && system_read(connection, &answer, 1) == 1
-                  && answer == LEAVES;
-    if (is_left) {
-        wait_for(child);
-        child = 0;
-    }
+    if (connection < 0 || ask_byte(connection, OWN_LEAVES) != OWN_LEAVES)
+        system_call3(SYS_kill, child, SIGKILL, 0); /* the run has begun: it only waits for that */
+    wait_for(child);
+    child = 0;
 }
 
 void waiter_reap(void)

@@ -18,6 +18,7 @@
 #include "base/errors.h"
 #include "common/format.h"
 #include "environment/asking.h"
+#include "environment/dormant.h"
 #include "environment/hub_folder.h"
 #include "environment/hub_names.h"
 #include "base/platform.h"
@@ -220,7 +221,8 @@ const char *output_connect(struct output *output, const char *path, bool has_abs
         return take_pieces(output, descriptor, window);
     }
     system_close(descriptor);
-    return why;
+    descriptor = has_abstract ? dormant_connect() : -1;
+    return descriptor >= 0 ? take_pieces(output, descriptor, window) : why;
 }
 
 /* The seals of what nobody can make smaller, so that another process can map it. */

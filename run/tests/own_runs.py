@@ -558,6 +558,61 @@ def check_undefined(suite: Suite, folder: str) -> None:
         expect_ran(run_alone(suite, program), 1, error, absent=["asancol"])
 
 
+ENDINGS = """
+#define _GNU_SOURCE
+#include <errno.h>
+#include <sched.h>
+#include <signal.h>
+#include <stdio.h>
+#include <stdlib.h>
+#include <string.h>
+#include <sys/time.h>
+#include <sys/wait.h>
+#include <unistd.h>
+static int ends;
+static void handle(int number) { if (ends) exit(5); }
+static void tick(int microseconds) {
+    struct sigaction action = {.sa_handler = handle};
+    struct itimerval each = {{0, microseconds}, {0, microseconds}};
+    sigaction(SIGALRM, &action, NULL);
+    setitimer(ITIMER_REAL, &each, NULL); }
+static void in_network(void) {
+    int status;
+    if (unshare(CLONE_NEWNET | (geteuid() != 0 ? CLONE_NEWUSER : 0)) != 0) exit(9);
+    if (fork() == 0) { if (fork() == 0) _exit(4); wait(&status); _exit(WEXITSTATUS(status)); }
+    wait(&status);
+    exit(WEXITSTATUS(status) + 1); }
+static void waits_for_all(void) {
+    int status, count = 0;
+    if (fork() == 0) _exit(5);
+    while (waitpid(-1, &status, __WALL) > 0) count++;
+    exit(count == 1 && errno == ECHILD ? WEXITSTATUS(status) : 8); }
+int main(int count, char **argv) {
+    ends = strcmp(argv[1], "handler") == 0;
+    if (strcmp(argv[1], "network") == 0) in_network();
+    if (strcmp(argv[1], "waits") == 0) waits_for_all();
+    if (!ends && fork() == 0) { for (int i = 0; i < 3; i++) close(i); sleep(3); _exit(0); }
+    tick(ends ? 5000 : 100);
+    for (int i = 0; i < 100000 || ends; i++) free(malloc(100));
+    return 5; }
+"""
+
+
+def check_endings(suite: Suite, folder: str) -> None:
+    """A correct program ends as alone: beside a child that lives and under signals, in a handler that has interrupted
+    malloc, with children in another network, and if it waits for any child, also if it is static."""
+    write_text(f"{folder}/e.c", ENDINGS)
+    for flags, ways in (([], ["daemon", "handler", "network", "waits"]), (["-static"], ["daemon", "waits"])):
+        call([CC, "-g", "-w", *flags, "e.c", "-o", "e"], cwd=folder, check=True)
+        for way in ways:
+            ran = run_alone(suite, "timeout", "20", f"{folder}/e", way)
+            if ran.status == 9:
+                leave_out("children in another network: the system makes none")
+            else:
+                expect((way, ran.status), (way, 5), ran.err)
+                expect(way == "handler" or ran.err == "", True, ran.err)
+
+
 HARNESS = """
 #include <sanitizer/asan_interface.h>
 #include <stdio.h>
@@ -596,5 +651,6 @@ def tests(suite: Suite) -> None:
         ("daemon", check_daemon), ("habits", check_habits), ("names", check_names), ("shut off", check_shut_off),
         ("ended by UndefinedBehaviorSanitizer", check_undefined), ("options", check_options),
         ("nothing left", check_nothing_left), ("as it was", check_as_it_was), ("harness", check_harness),
+        ("endings", check_endings),
     ):
         suite.test(f"own run: {name}", run)
