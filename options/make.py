@@ -1,6 +1,6 @@
 #!/usr/bin/env python3
-"""Generates from the tables of options beside it: completions, lists of manual pages, and code; and the tables
-of docs/ASAN.md, of common/asan_options.def.
+"""Generates from the tables of options beside it: completions, lists of manual pages, and code; the tables of
+docs/ASAN.md, of common/asan_options.def; and a module of asancol-report, of common/shades.def.
 
 usage: options/make.py [--check [ASANCOL]]
 
@@ -22,6 +22,7 @@ from typing import Dict, Iterator, List
 import asan
 import completions
 import pages
+import shades
 import sources
 import table
 
@@ -93,6 +94,7 @@ def main(argv: List[str]) -> int:
     for name in TABLES:
         files.update(files_of(name, [it for it in programs if it.table == name]))
     files[asan.PAGE] = asan.page_of(text_of(asan.PAGE), text_of(asan.TABLE))
+    files[shades.MODULE] = shades.module_of(text_of(shades.TABLE))
     others = [path for path, text in files.items() if text != text_of(path)]
     if not argv:
         for path in others:

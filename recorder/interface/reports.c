@@ -50,42 +50,7 @@ static bool note_place(uintptr_t place)
     return true;
 }
 
-/* Names. asancol_report/class_names.py has them for reports. */
-
-static const char *class_of_shade(unsigned char shade)
-{
-    switch (shade) {
-    case SHADE_LEFT:
-        return "stack-buffer-underflow";
-    case SHADE_LEFT + 1:
-    case SHADE_RIGHT:
-        return "stack-buffer-overflow";
-    case SHADE_RETURNED:
-        return "stack-use-after-return";
-    case SHADE_SCOPE:
-        return "stack-use-after-scope";
-    case SHADE_ALLOCA_LEFT:
-    case SHADE_ALLOCA_RIGHT:
-        return "dynamic-stack-buffer-overflow";
-    case SHADE_GLOBAL:
-        return "global-buffer-overflow";
-    case SHADE_UNINITIALISED:
-        return "initialization-order-fiasco";
-    case SHADE_HEAP:
-    case SHADE_COOKIE:
-        return "heap-buffer-overflow";
-    case SHADE_FREED:
-        return "heap-use-after-free";
-    case SHADE_CONTAINER:
-        return "container-overflow";
-    case SHADE_FIELD:
-        return "intra-object-overflow";
-    case SHADE_USER:
-        return "use-after-poison";
-    default:
-        return "unknown-crash";
-    }
-}
+/* Names. */
 
 static const char *class_of_access(const struct told *told)
 {
@@ -95,7 +60,7 @@ static const char *class_of_access(const struct told *told)
     if (is_beyond(bad, 1))
         return "unknown-crash";
     unsigned char shade = *shadow_of(bad);
-    return class_of_shade(shade != 0 && shade < GRANULE ? *shadow_of(bad + GRANULE) : shade);
+    return shade_class(shade != 0 && shade < GRANULE ? *shadow_of(bad + GRANULE) : shade);
 }
 
 /* The text may be put together here, and is there up to the next report: one is told at a time. */

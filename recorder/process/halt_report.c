@@ -180,35 +180,9 @@ static const char *class_at(uint64_t bad, const struct nearest *block)
     unsigned char shade = *shadow_of(bad);
     if (shade > 0 && shade < GRANULE)
         shade = *shadow_of(bad + GRANULE);
-    switch (shade) {
-    case SHADE_LEFT:
-        return "stack-buffer-underflow";
-    case SHADE_LEFT + 1:
-    case SHADE_RIGHT:
-        return "stack-buffer-overflow";
-    case SHADE_RETURNED:
-        return "stack-use-after-return";
-    case SHADE_SCOPE:
-        return "stack-use-after-scope";
-    case SHADE_ALLOCA_LEFT:
-    case SHADE_ALLOCA_RIGHT:
-        return "dynamic-stack-buffer-overflow";
-    case SHADE_GLOBAL:
-        return "global-buffer-overflow";
-    case SHADE_HEAP:
-    case SHADE_COOKIE:
-        return "heap-buffer-overflow";
-    case SHADE_FREED:
-        return "heap-use-after-free";
-    case SHADE_CONTAINER:
-        return "container-overflow";
-    case SHADE_FIELD:
-        return "intra-object-overflow";
-    case SHADE_USER: /* and memory of the allocator in which no block is */
-        return block->start != 0 && !is_in_block(bad, block) ? "heap-buffer-overflow" : "use-after-poison";
-    default:
-        return "unknown-crash";
-    }
+    /* And memory of the allocator in which no block is. */
+    bool is_past = shade == SHADE_USER && block->start != 0 && !is_in_block(bad, block);
+    return shade_class(is_past ? SHADE_HEAP : shade);
 }
 
 static void put_region(uint64_t address, const struct nearest *block)

@@ -26,6 +26,7 @@
 #include "base/platform.h"
 #include "libc/hook_page.h"
 #include "common/format.h"
+#include "common/shades.h"
 
 /* Where the maps lie is a matter of the processor (processor.h): in the place of AddressSanitizer's, the allocator's
    memory after it, and then `stated`. */
@@ -92,26 +93,6 @@ static inline bool is_beyond(uint64_t address, uint64_t size)
 {
     return address > MEMORY_END - size || is_in_hole(address);
 }
-
-/* The codes of granules without an addressable byte. Which of them it is matters only for the kind of
-   poison that the stream gets. */
-enum {
-    /* The redzones of frames have the codes from SHADE_LEFT to SHADE_RETURNED. */
-    SHADE_LEFT = 0xf1,
-    SHADE_RIGHT = 0xf3,
-    SHADE_RETURNED = 0xf5,
-    SHADE_HEAP = 0xfa,
-    SHADE_FREED = 0xfd,
-    SHADE_USER = 0xf7,
-    SHADE_SCOPE = 0xf8,
-    SHADE_GLOBAL = 0xf9,
-    SHADE_UNINITIALISED = 0xf6, /* a global of another file that has no value yet (process/init_order.c) */
-    SHADE_CONTAINER = 0xfc,
-    SHADE_FIELD = 0xbb, /* between the fields of a class */
-    SHADE_COOKIE = 0xac,
-    SHADE_ALLOCA_LEFT = 0xca,
-    SHADE_ALLOCA_RIGHT = 0xcb,
-};
 
 /* In `stated` alone: a thread is bringing the stream up just now, in a segment whose number ends in these four bits. */
 enum { STATED_BUSY = 0xe0, BUSY_NUMBERS = 0x10 };

@@ -9,22 +9,6 @@
    thread continues after this many. */
 enum { LOOKS = 10000 };
 
-/* tests/classes.py takes this function by its first line, and compiles it alone. */
-static enum kind kind_of(unsigned char code)
-{
-    switch (code) {
-    case SHADE_GLOBAL:
-    case SHADE_UNINITIALISED:
-        return KIND_GLOBAL;
-    case SHADE_USER:
-    case SHADE_CONTAINER:
-    case SHADE_FIELD:
-        return KIND_USER;
-    default:
-        return KIND_STACK;
-    }
-}
-
 /* What a granule has while a thread brings it up: another byte from segment to segment. A thread that has slept since
    the segment before does not take the byte of one that is at it now for its own. */
 static unsigned char busy_in(unsigned segment)
@@ -50,10 +34,10 @@ struct change {
 static struct change change_to(unsigned char before, unsigned char now, unsigned char next)
 {
     unsigned had = addressable_of(before), has = addressable_of(now);
-    bool is_unknown = is_busy(before), is_other = had != 0 || is_unknown || kind_of(before) != kind_of(now);
-    enum kind kind_of_end = addressable_of(next) == 0 ? kind_of(next) : KIND_USER;
+    bool is_unknown = is_busy(before), is_other = had != 0 || is_unknown || shade_kind(before) != shade_kind(now);
+    enum kind kind_of_end = addressable_of(next) == 0 ? shade_kind(next) : KIND_USER;
     if (has == 0)
-        return (struct change){0, is_other ? 0 : GRANULE, kind_of(now)};
+        return (struct change){0, is_other ? 0 : GRANULE, shade_kind(now)};
     if (has < GRANULE && (had > has || is_unknown))
         return (struct change){is_unknown ? GRANULE : 0, has, kind_of_end};
     return (struct change){has, GRANULE, KIND_USER};

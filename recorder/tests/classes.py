@@ -1,13 +1,15 @@
 """The classes of AddressSanitizer's reports: that RECORDER.md says of each what a report has in its place."""
 
+import glob
 import re
 import subprocess
 from typing import Dict, List, Set, Tuple
 
 from asancol_report.class_names import BY_SHADOW, NOT_POISONED, class_of
+from asancol_report.shade_table import SHADES
 from asancol_report.side import Fault
 from beside.tables import CRASHES, UNCLAIMED
-from support import TOP, Compiler, Suite, expect, leave_out
+from support import TOP, Compiler, Suite, expect, leave_out, write
 from testing import traces
 from testing.classes import THE_SAME, table_of_classes
 from testing.lines import lines_of
@@ -25,6 +27,15 @@ OTHERS = {"default-aligned", "far-from-bounds", "heap-invalid", "llvm-symbolizer
           "wild-addr-read", "wild-addr-write", "wild-jump"}
 # What the comparison calls in another way.
 WORDS = {"CHECK": ["CHECK failed"], "does not build": ()}
+
+
+# A class of the table in a source.
+NAMES_A_CLASS = re.compile("|".join(sorted({f'"{it.class_name}"' for it in SHADES})))
+
+
+def text_of(path: str) -> str:
+    with open(path, encoding="utf-8") as file:
+        return file.read()
 
 
 def runtime_of(compiler: Compiler) -> bytes:
@@ -60,14 +71,11 @@ def check_tables(suite: Suite, folder: str) -> None:
 # Says of each shadow byte the class that the recorder prints, and the kind of poison that it records.
 NAMES_BYTES = """
 #include <stdio.h>
-#define SHADOW_START 0
-#include "shadow/shadow.h"
-%s
-%s
+#include "common/shades.h"
 int main(void)
 {
     for (unsigned shade = 0; shade < 256; shade++)
-        printf("%%s %%d\\n", class_of_shade((unsigned char)shade), kind_of((unsigned char)shade));
+        printf("%s %d\\n", shade_class((unsigned char)shade), shade_kind((unsigned char)shade));
     return 0;
 }
 """
@@ -78,21 +86,9 @@ EACH_SHADOW = [
 ]
 
 
-def function_in(path: str, head: str) -> str:
-    """Returns a function of a source, from its first line to its last."""
-    with open(f"{TOP}/recorder/{path}", encoding="utf-8") as file:
-        text = file.read()
-    start = text.index(f"{head}\n{{")
-    return text[start : text.index("\n}\n", start) + 3]
-
-
 def names_in_recorder(folder: str) -> List[Tuple[str, int]]:
-    functions = (function_in("interface/reports.c", "static const char *class_of_shade(unsigned char shade)"),
-                 function_in("stream/stating.c", "static enum kind kind_of(unsigned char code)"))
-    with open(f"{folder}/names.c", "w", encoding="utf-8") as file:
-        file.write(NAMES_BYTES % functions)
-    options = [f"-iquote{TOP}/recorder", f"-iquote{TOP}"]
-    call(["cc", "-std=gnu11", *options, f"{folder}/names.c", "-o", f"{folder}/names"], check=True)
+    write(folder, names_c=NAMES_BYTES)
+    call(["cc", "-std=c11", f"-iquote{TOP}", f"{folder}/names.c", "-o", f"{folder}/names"], check=True)
     said = call([f"{folder}/names"], stdout=subprocess.PIPE, text=True, check=True).stdout
     return [(name, int(kind)) for name, kind in map(str.split, said.splitlines())]
 
@@ -114,7 +110,8 @@ def name_in_report(byte: int, verdict: str) -> str:
 
 def check_names(suite: Suite, folder: str) -> None:
     """Of each shadow byte the recorder, the checker and asancol-report have the same class, the checker a coarser one.
-    Of a byte that no shadow has the report's is the checker's."""
+    Of a byte that no shadow has the report's is the checker's. MODEL.md has the checker's, and no other part of the
+    recorder has classes of its own."""
     in_recorder, in_checker = names_in_recorder(folder), names_in_checker(suite, folder)
     of_kind = list(in_checker.values())[2:]
     expect([f"{byte:02x}" for byte in in_checker], ["fa", "fd", "f7", "f2", "f9"], "shadow bytes of the checker")
@@ -127,6 +124,12 @@ def check_names(suite: Suite, folder: str) -> None:
             expect(name_in_report(byte, verdict), fine if is_finer else verdict, f"the report's of {byte:02x}")
         if byte in BY_SHADOW and not coarse.startswith("heap-"):
             expect(of_kind[kind], coarse, f"the checker's class of {byte:02x}, as it is recorded")
+    with open(f"{TOP}/docs/inside/MODEL.md", encoding="utf-8") as file:
+        rows = re.findall(r"^\| [\w ]+ \| `(\w\w)` \| (\S+) \|$", file.read(), re.M)
+    expect({int(byte, 16): name for byte, name in rows}, in_checker, "the shadow bytes of MODEL.md")
+    sources = [it for it in glob.glob(f"{TOP}/recorder/*/*.c") if "/tests/" not in it]
+    own = [it for it in sources if NAMES_A_CLASS.search(text_of(it))]
+    expect(own, [], "sources that name the class of a shadow byte")
 
 
 def tests(suite: Suite, compiler: Compiler) -> None:

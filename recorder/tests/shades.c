@@ -135,7 +135,7 @@ void record_poison(enum kind kind, uint64_t address, uint64_t size)
 /* A byte of the recorder's as the collector has it. */
 static uint8_t as_stated(unsigned char shade)
 {
-    return addressable_of(shade) != 0 ? shade : code_of(kind_of(shade));
+    return addressable_of(shade) != 0 ? shade : code_of(shade_kind(shade));
 }
 
 static bool is_shade(unsigned shade)

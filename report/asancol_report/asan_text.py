@@ -42,8 +42,7 @@ CONTAINER_HINT = (
     "If you suspect a false positive see also: "
     "https://github.com/google/sanitizers/wiki/AddressSanitizerContainerOverflow.")
 # What stands in its legend, and in ours not.
-LEGEND = shadow_rows.LEGEND.replace("06 07\n", "06 07 \n").replace(
-    "f9\n", "f9\n  Global init order:       f6\n").replace("bb\n", "bb\n  ASan internal:           fe\n")
+LEGEND = shadow_rows.LEGEND.replace("06 07\n", "06 07 \n").replace("bb\n", "bb\n  ASan internal:           fe\n")
 
 # What the recorder says of two alignments, and of another size.
 ALIGNMENTS_SAID = re.compile(r"(?: of (?P<size>\d+) bytes?)? with (?:alignment (?P<said>\d+)|no alignment), and .* "

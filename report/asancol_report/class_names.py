@@ -2,6 +2,7 @@
 
 from __future__ import annotations
 
+from .shade_table import SHADES
 from .side import Fault, GRANULE, VARIABLE_NONE
 
 # The classes that asancol prints, with their meaning.
@@ -68,23 +69,8 @@ CLASSES = {
 
 STACK, POISON = "stack-buffer-overflow", "use-after-poison"
 # AddressSanitizer's name for each shadow byte, and the class of asancol that it makes finer.
-BY_SHADOW = {
-    0xF1: ("stack-buffer-underflow", STACK),
-    0xF2: (STACK, STACK),
-    0xF3: (STACK, STACK),
-    0xF5: ("stack-use-after-return", STACK),
-    0xF8: ("stack-use-after-scope", STACK),
-    0xCA: ("dynamic-stack-buffer-overflow", STACK),
-    0xCB: ("dynamic-stack-buffer-overflow", STACK),
-    0xF6: (INIT_ORDER, "global-buffer-overflow"),
-    0xF9: ("global-buffer-overflow", "global-buffer-overflow"),
-    0xFA: ("heap-buffer-overflow", "heap-buffer-overflow"),
-    0xAC: ("heap-buffer-overflow", "heap-buffer-overflow"),
-    0xFD: ("heap-use-after-free", "heap-use-after-free"),
-    0xFC: ("container-overflow", POISON),
-    0xBB: ("intra-object-overflow", POISON),
-    0xF7: (POISON, POISON),
-}
+COARSE = {"STACK": STACK, "GLOBAL": "global-buffer-overflow", "USER": POISON}
+BY_SHADOW = {it.byte: (it.class_name, COARSE.get(it.kind, it.class_name)) for it in SHADES}
 # A recorder has poison for all that is no block. What has another class of asancol's is never only poisoned.
 NOT_POISONED = {"heap-use-after-free"}
 

@@ -6,6 +6,7 @@ import re
 
 from .class_names import CLASSES
 from .crashes import CRASH_CLASSES
+from .shade_table import SHADES
 
 # What a developer should look at, in a sentence, for each class whose name matches. The first match counts.
 ADVICE = (
@@ -90,17 +91,8 @@ def advice_for(name: str) -> str:
                 "Compare the access in the first stack with what the others say of its memory.")
 
 
-# Where a bad byte is, by AddressSanitizer's code in its shadow byte.
-SHADOWS = {
-    "fa": "in the redzone of a heap block", "fd": "in a freed heap block",
-    "f1": "in the left redzone of a stack frame", "f2": "in the redzone of a variable on the stack",
-    "f3": "in the right redzone of a variable on the stack", "f5": "in the frame of a function that has returned",
-    "f8": "in a variable whose scope has ended", "f9": "in the redzone of a global variable",
-    "f6": "in a global variable that is not initialised yet", "f7": "in memory that the program poisoned",
-    "fc": "in a container's memory, outside its elements", "ac": "in the count before an array of new[]",
-    "bb": "in a redzone between members of an object", "fe": "in memory of asancol",
-    "ca": "in the left redzone of an alloca", "cb": "in the right redzone of an alloca",
-}
+# Where a bad byte is, by its shadow byte.
+SHADOWS = {f"{it.byte:02x}": it.where for it in SHADES}
 
 
 def shadow_text(shadow: str) -> str:

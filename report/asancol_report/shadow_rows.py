@@ -5,26 +5,14 @@ from __future__ import annotations
 from typing import Iterator
 
 from .findings import Rows
+from .shade_table import SHADES
 from .side import GRANULE, SHADOW_ROW
 
-LEGEND = """\
-Shadow byte legend (one shadow byte represents 8 application bytes):
-  Addressable:           00
-  Partially addressable: 01 02 03 04 05 06 07
-  Heap left redzone:       fa
-  Freed heap region:       fd
-  Stack left redzone:      f1
-  Stack mid redzone:       f2
-  Stack right redzone:     f3
-  Stack after return:      f5
-  Stack use after scope:   f8
-  Global redzone:          f9
-  Poisoned by user:        f7
-  Container overflow:      fc
-  Array cookie:            ac
-  Intra object redzone:    bb
-  Left alloca redzone:     ca
-  Right alloca redzone:    cb"""
+LEGEND = "\n".join((
+    "Shadow byte legend (one shadow byte represents 8 application bytes):",
+    "  Addressable:           00",
+    "  Partially addressable: 01 02 03 04 05 06 07",
+    *(f"  {it.legend + ':':24} {it.byte:02x}" for it in SHADES)))
 
 
 def lines(rows: Rows, bad: int) -> Iterator[str]:
