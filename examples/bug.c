@@ -1,8 +1,16 @@
 #include <stdio.h>
 #include <stdlib.h>
 #include <string.h>
-int main(int count, char **argv) {
-    char *word = argv[count - 1], *copy = malloc(strlen(word));
-    int failed = strcpy(copy, word) == NULL || puts(word) < 0;
+
+static int lengths[2];
+
+int main(int count, char **argv)
+{
+    const char *name = argv[count - 1];
+    char *copy = malloc(strlen(name));
+    strcpy(copy, name);
+    lengths[count] = (int)strlen(name);
     free(copy);
-    return failed; }
+    puts(name);
+    return lengths[0];
+}

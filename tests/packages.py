@@ -195,7 +195,7 @@ def package_finds_a_bug(_: str, folder: str) -> None:
     must([f"{programs}/asancol-cc", "-g", "examples/bug.c", "-o", f"{folder}/bug"])
     ran = run([f"{programs}/asancol-run", "--", f"{folder}/bug", "Alice"])
     expect((ran.status, ran.out), (99, "Alice\n"), ran.err)
-    for text in ("heap-buffer-overflow: store", "in main", "examples/bug.c:6", "allocated at", "examples/bug.c:5"):
+    for text in ("heap-buffer-overflow: store", "in main", "examples/bug.c:11", "allocated at", "examples/bug.c:10"):
         expect(text in ran.err, True, f"{text} in {ran.err}")
     with open(f"{folder}/bug.cpp", "w", encoding="utf-8") as file:
         file.write("int main(int count, char **) { int *one = new int[1]; return one[count]; }\n")

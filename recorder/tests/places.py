@@ -32,7 +32,7 @@ def check_debugger(suite, folder, compiler):
     argv = ["gdb", "-nx", "-batch", "-ex", "run", "-ex", "backtrace", "-ex", "continue", "--args", "./bug", "Alice"]
     text = run(argv, folder, ASANCOL_TRACE="/dev/null", ASANCOL_STOP="3").stdout.decode()
     expect(re.search(r"received signal SIGTRAP", text) is not None, True, text)
-    expect(re.search(r"in main .*bug\.c:6\n", text) is not None, True, text)
+    expect(re.search(r"in main .*bug\.c:11\n", text) is not None, True, text)
     expect("exited normally" in text, True, text)
 
 

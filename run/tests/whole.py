@@ -334,7 +334,7 @@ def check_bare(suite: Suite, folder: str, compiler: str) -> None:
     line = "; ".join(f"{folder}/{name} A" for name in ("lines", "plain", "plain", "stripped"))
     ran = run_real(suite, "--json", f"{folder}/x", "--", "sh", "-c", line)
     why = "has no lines: compile it with -g, and do not strip it"
-    expect_ran(ran, 99, "bug.c:6", *(f"asancol: {folder}/{name} {why}\n" for name in ("plain", "stripped")))
+    expect_ran(ran, 99, "bug.c:11", *(f"asancol: {folder}/{name} {why}\n" for name in ("plain", "stripped")))
     expect([it["text"] for it in read_lines(f"{folder}/x") if it["type"] == "note"],
            [f"{folder}/{name} {why}" for name in ("plain", "stripped")], "notes of the result")
     alone = run_real(suite, "--", f"{folder}/stripped", "A")
@@ -568,18 +568,19 @@ def check_first_steps(suite: Suite, folder: str) -> None:
         argv = ["make", "-s", "-C", f"{TOP}/{part}", "install", f"PREFIX={where}", "DESTDIR="]
         call(argv, check=True, stdout=subprocess.DEVNULL)
     shutil.copy(suite.asancol, f"{where}/bin/asancol")
-    build = [f"{where}/bin/asancol-cc", "-g", f"{TOP}/examples/bug.c", "-o", f"{folder}/bug"]
-    call(build, check=True)
+    build = [f"{where}/bin/asancol-cc", "-g", "examples/bug.c", "-o", f"{folder}/bug"]
+    call(build, cwd=TOP, check=True)
     ran = call(
         [f"{where}/bin/asancol-run", "--", "./bug", "Alice"],
         cwd=folder, env=environment(), capture_output=True, text=True, check=False,
     )
-    expect_ran(Ran(ran.returncode, ran.stdout, ran.stderr), 99, "bug.c:6", "bug.c:5")
+    expect_ran(Ran(ran.returncode, ran.stdout, ran.stderr), 99, "bug.c:11", "bug.c:10")
     expect(ran.stdout, "Alice\n", "what it prints")
     with open(f"{TOP}/README.md", encoding="utf-8") as page:
         text = page.read()
     lines = [it for it in ran.stderr.splitlines() if not it.startswith(("==", "    #"))]
-    lines = [it.replace(TOP, "/home/me/asancol") for it in lines]
+    lines = [re.sub(r"0x[0-9a-f]+", "0x", it.replace(TOP, "/home/me/asancol")) for it in lines]
+    text = re.sub(r"0x[0-9a-f]+", "0x", text)
     expect([it for it in lines if it not in text], [], "what the page does not have")
     modules = f"{where}/lib/asancol/asancol_report"
     expect(os.path.isdir(f"{modules}/__pycache__"), True, "that the modules are compiled")
