@@ -42,8 +42,9 @@ _asancol_report() {
     esac
     if [[ $word == -* ]]; then
         mapfile -t COMPREPLY < <(compgen -W '--json --sarif --junit --codequality --html --source-url --format --log-path
-            --live --crashes --source-root --color --full-stacks --shadow --unchecked --no-machines --quiet --leaks
-            --suppressions --gen-suppressions --baseline --trace --quarantine --memory --limit --run --help --version' -- "$word")
+            --live --crashes --source-root --color --full-stacks --all-places --shadow --unchecked --no-machines --quiet
+            --leaks --suppressions --gen-suppressions --baseline --trace --quarantine --memory --limit --run --help
+            --version' -- "$word")
     else
         local end='*.jsonl'
         [[ " ${COMP_WORDS[*]} " == *' --trace '* ]] && end='*.trace'

@@ -64,9 +64,9 @@ _asancol_run() {
     if [[ $word == -* && -z $ended ]]; then
         mapfile -t COMPREPLY < <(compgen -W '--exitcode --error-exitcode --incomplete-exitcode --nothing-exitcode
             --at-least --wait --timeout --json --sarif --junit --codequality --html --source-url --keep --log-file
-            --format --log-path --live --crashes --source-root --color --full-stacks --shadow --unchecked --quiet
-            --verbose --leaks --suppressions --gen-suppressions --baseline --quarantine --no-mismatches --full --preload
-            --memory --limit --help --version --' -- "$word")
+            --format --log-path --live --crashes --source-root --color --full-stacks --all-places --shadow --unchecked
+            --quiet --verbose --leaks --suppressions --gen-suppressions --baseline --quarantine --no-mismatches --full
+            --preload --memory --limit --help --version --' -- "$word")
     else
         mapfile -t COMPREPLY < <(compgen -c -- "$word"; compgen -f -- "$word")
     fi

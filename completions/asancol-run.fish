@@ -52,6 +52,7 @@ complete -c asancol-run -n '_asancol_run_takes option' -l crashes -d 'count cras
 complete -c asancol-run -n '_asancol_run_takes option' -l source-root -x -a '(__fish_complete_directories)' -d 'show files under DIR by their paths from there'
 complete -c asancol-run -n '_asancol_run_takes option' -l color -x -a 'auto always never' -d 'colors: auto, always or never'
 complete -c asancol-run -n '_asancol_run_takes option' -l full-stacks -d 'print all frames of a stack, and whole names'
+complete -c asancol-run -n '_asancol_run_takes option' -l all-places -d 'print what may follow from another report, too'
 complete -c asancol-run -n '_asancol_run_takes option' -l shadow -d 'print the shadow bytes around each bad byte'
 complete -c asancol-run -n '_asancol_run_takes option' -l unchecked -x -a 'list list-all no error' -d 'unchecked code: list, list-all, no or error'
 complete -c asancol-run -n '_asancol_run_takes option' -s q -l quiet -d 'print nothing if all is clean'

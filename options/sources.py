@@ -9,7 +9,7 @@ from typing import Dict, List, Sequence, Union
 from table import Option, Program, Wrong
 
 COLUMNS = 80
-LINES = 45
+LINES = 50
 
 
 def help_of(program: Program) -> List[str]:

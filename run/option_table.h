@@ -32,6 +32,7 @@
     "  --source-root DIR        show files under DIR by their paths from there\n" \
     "  --color WHEN             colors: auto, always or never (auto)\n" \
     "  --full-stacks            print all frames of a stack, and whole names\n" \
+    "  --all-places             print what may follow from another report, too\n" \
     "  --shadow                 print the shadow bytes around each bad byte\n" \
     "  --unchecked HOW          unchecked code: list, list-all, no or error (list)\n" \
     "  -q, --quiet              print nothing if all is clean\n" \
@@ -84,6 +85,7 @@
     {"source-root", 0, PASS_FOLDER, 0, 0, 0, NULL}, \
     {"color", 0, PASS_WORDS, 0, 0, 0, (const char *const[]){"auto", "always", "never", NULL}}, \
     {"full-stacks", 0, PASS_FLAG, 0, 0, 0, NULL}, \
+    {"all-places", 0, PASS_FLAG, 0, 0, 0, NULL}, \
     {"shadow", 0, PASS_FLAG, 0, 0, 0, NULL}, \
     {"leaks", 0, PASS_WORDS, AT(leaks), 0, 0, (const char *const[]){"yes", "summary", "no", NULL}}, \
     {"unchecked", 0, PASS_WORDS, AT(unchecked), 0, 0, (const char *const[]){"list", "list-all", "no", "error", NULL}}, \

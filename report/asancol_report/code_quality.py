@@ -40,7 +40,7 @@ def write(results: Results, out: TextIO, options: Options, sources: Sources) -> 
     root = os.path.realpath(options.value("--source-root", "."))
     ordinals: Dict[str, int] = {}
     entries = []
-    for finding in (*results.counted(), *results.counted_crashes()):
+    for finding in (it for it in (*results.counted(), *results.counted_crashes()) if it.follows is None):
         # No two entries may have the same fingerprint.
         name = finding.fingerprint
         ordinal = ordinals[name] = ordinals.get(name, 0) + 1

@@ -6,7 +6,7 @@ import functools
 import hashlib
 import os
 import re
-from typing import Dict, Hashable, Iterable, Iterator, List, NamedTuple, Optional, Tuple
+from typing import Dict, Iterable, Iterator, List, NamedTuple, Optional, Tuple
 
 from .class_names import ATTEMPTS, LEAK, NEGATIVE_SIZE, TITLES
 from .functions import brief
@@ -155,7 +155,8 @@ class Finding:
 
     __slots__ = ("class_name", "raw_class", "access", "size", "call", "address", "bad", "shadow", "rows", "stack",
                  "block",
-                 "allocated", "freed", "threads", "fingerprint", "runs", "suppression", "is_known", "follows", "also",
+                 "allocated", "freed", "threads", "fingerprint", "runs", "suppression", "is_known", "follows",
+                 "shares_block", "also", "later",
                  "ordinal", "by_recorder", "said", "is_forgotten", "allocator", "is_awaited", "rule")
 
     def __init__(self, class_name: str, access: str, size: Optional[int], address: int, bad: Optional[int]) -> None:
@@ -177,9 +178,10 @@ class Finding:
         self.runs: Dict[int, Tally] = {}
         self.suppression = ""  # the line that suppresses it
         self.is_known: Optional[bool] = None  # whether it is in the baseline; None if there is none
-        # The first report of this class on the same block or variable of the process; None if this is it, or alone.
-        self.follows: Optional[Finding] = None
-        self.also: List[Finding] = []  # those that follow this one
+        self.follows: Optional[Finding] = None  # an earlier report of the process, which may be the cause
+        self.shares_block = False  # and is about the same block or variable
+        self.also: List[Finding] = []  # those that follow this one, and share its block
+        self.later: List[Finding] = []  # and the others
         self.ordinal = 1  # which of the findings with this fingerprint it is
         self.by_recorder = False  # no checker has judged it: it is the recorder's word
         self.said = ""  # what that is, in words
@@ -196,6 +198,9 @@ class Finding:
     def is_consequence(self) -> bool:
         """Whether something that was reported before may have led to it."""
         return self.follows is not None
+
+    def forget_consequences(self) -> None:
+        self.follows, self.shares_block, self.also, self.later = None, False, [], []
 
     @property
     def count(self) -> int:
@@ -215,13 +220,6 @@ class Finding:
         run = min(self.runs)
         tally = self.runs[run]
         return (run, tally.process, *tally.moment)
-
-    @property
-    def object(self) -> Optional[Hashable]:
-        """What a report is about that others may be about too: a block or a variable of one process."""
-        if self.block is None:
-            return None
-        return self.class_name, self.order[:2], self.block, self.allocated, self.freed
 
     @property
     def own_stack(self) -> Stack:

@@ -90,7 +90,7 @@ class Page:
         crashes = self.results.placed_crashes()
         places: List[Finding] = []
         for finding in firsts:
-            places += [finding, *finding.also]
+            places += [finding, *sorted((*finding.also, *finding.later), key=lambda it: it.order)]
             if last[finding.order[:2]] is finding:
                 places += [crash for crash in crashes if crash.is_consequence and crash.order[:2] == finding.order[:2]]
         placed = set(places)
@@ -201,7 +201,8 @@ class Page:
             first = finding.follows
             place = f"{brief(first.top.function)} {self.place(first)}"
             link = tag("a", escape(f"{first.title} in {place}"), href="#" + self.names[first])
-            yield tag("p", "On the same block or variable as the earlier " + link + ".")
+            how = "On the same block or variable as" if finding.shares_block else "It may follow from"
+            yield tag("p", f"{how} the earlier {link}.")
         yield tag("p", escape(self.what_is(finding)))
         if finding.is_forgotten:
             yield tag("p", escape(f"The block was {FORGOTTEN}."))

@@ -41,6 +41,7 @@ def part_of(finding: Finding, number: int) -> Finding:
     part = copy.copy(finding)
     part.runs = {number: finding.runs[number]}
     part.also = [part_of(other, number) for other in finding.also if number in other.runs]
+    part.later = [other for other in finding.later if number in other.runs]
     return part
 
 

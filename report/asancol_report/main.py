@@ -355,9 +355,10 @@ def text_of(options: Options, root: str) -> Text:
     if options.value("--format") == ASAN:
         from .asan_text import AsanText
         return AsanText(sys.stdout, Colors(False), root, False)
-    return Text(sys.stdout, Colors(has_colors(options)), root, switches["--gen-suppressions"],
-                switches["--full-stacks"],
-                switches["--shadow"], " and ".join(whole))
+    text = Text(sys.stdout, Colors(has_colors(options)), root, switches["--gen-suppressions"],
+                switches["--full-stacks"], switches["--shadow"], " and ".join(whole))
+    text.has_all_places = switches["--all-places"]
+    return text
 
 
 def has_colors(options: Options) -> bool:

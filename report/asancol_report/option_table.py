@@ -20,6 +20,7 @@ Text:
   --source-root DIR    show files under DIR by their paths from there
   --color WHEN         colors: auto, always or never (auto)
   --full-stacks        print all frames of a stack, and whole names
+  --all-places         print what may follow from another report, too
   --shadow             print the shadow bytes around each bad byte
   --unchecked HOW      unchecked code: list, list-all, no or error (list)
   --no-machines        omit names of machines and times of runs
@@ -94,6 +95,7 @@ SWITCHES = (
     "--live",
     "--crashes",
     "--full-stacks",
+    "--all-places",
     "--shadow",
     "--no-machines",
     "--quiet",

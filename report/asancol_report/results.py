@@ -4,8 +4,9 @@ from __future__ import annotations
 
 import hashlib
 import os
-from typing import Dict, Hashable, Iterable, List, NamedTuple, Optional, Tuple
+from typing import Dict, Iterable, List, NamedTuple, Optional, Tuple
 
+from .consequences import fold
 from .crashes import Crash, CRASH_CLASSES, CRASHES, end_text, line_of_crash
 from .findings import Finding, Place, Stack, Tally, Threads
 from .leaks import at_one_place, Leaks, total
@@ -297,18 +298,19 @@ class Results:
         return [crash for crash in self.placed_crashes() if crash.counts]
 
     def fold(self) -> None:
-        """Puts reports on the same block or variable under the first of them. One that does not count has none under
-        it, so that what it has led to is seen."""
-        first: Dict[Hashable, Finding] = {}
+        """Puts what may follow from an earlier report of its process under that one. One that does not count has none
+        under it, so that what it has led to is seen."""
         alike: Dict[str, int] = {}
+        counted: List[Finding] = []
         for finding in self.findings():
             finding.ordinal = alike[finding.fingerprint] = alike.get(finding.fingerprint, 0) + 1
-            finding.follows, finding.also = None, []
-            if finding.counts and finding.object is not None:
-                head = first.setdefault(finding.object, finding)
-                if head is not finding:
-                    finding.follows = head
-                    head.also.append(finding)
+            finding.forget_consequences()
+            if finding.counts:
+                counted.append(finding)
+        last = fold(counted)
+        for crash in self.crash_places.values():
+            crash.forget_consequences()
+            crash.follows = last.get(crash.order[:2]) if crash.counts else None
 
     def incomplete(self) -> List[Tuple[Run, Process]]:
         return [(run, process) for run in self.runs for process in run.processes.values() if not process.is_complete]

@@ -132,9 +132,10 @@ def result(finding: Finding, results: Results, rule: int, ordinal: int, root: st
 
 
 def results_of(results: Results, rules: List[str], root: str) -> List[Part]:
+    """Returns a result for each bug: what may follow from an earlier report has none."""
     ordinals: Dict[str, int] = {}
     made = []
-    for finding in results.all_places():
+    for finding in (it for it in results.all_places() if it.follows is None):
         ordinal = ordinals[finding.fingerprint] = ordinals.get(finding.fingerprint, 0) + 1
         made.append(result(finding, results, rules.index(finding.class_name), ordinal, root))
     return made

@@ -2,7 +2,7 @@
 
 from __future__ import annotations
 
-from typing import Callable, Dict, Iterable, Iterator, List, Optional, TextIO
+from typing import Callable, Dict, Iterable, Iterator, List, Optional, TextIO, Tuple
 
 from . import shadow_rows
 from .class_names import TITLES
@@ -19,7 +19,7 @@ from .words import date_and_time, plural, printable, shown_path
 # The most names of unchecked code in the summary.
 MAX_UNCHECKED_SAID = 5
 # The most places that are named under the first one of a block.
-MAX_ALSO = 10
+MAX_ALSO = 5
 # The most places with a report in the text, and the most variables of a frame.
 MAX_PLACES = 50
 MAX_VARIABLES = 16
@@ -46,6 +46,7 @@ class Text:
         self.has_suppressions = has_suppressions  # print what suppresses each finding
         self.has_all_frames = has_all_frames
         self.has_shadow = has_shadow
+        self.has_all_places = False  # what may follow from an earlier report is printed, too
         self.elsewhere = elsewhere  # the files that have all places
         self.places = 0  # that were printed
         self.shown: Dict[Place, int] = {}  # those that processes have halted at, and how often they were printed
@@ -65,13 +66,17 @@ class Text:
         for finding in before[:MAX_PLACES]:
             if finding.count > self.shown.get(finding.place, 1):
                 self.write(iter([self.count_line(finding)]))
-        self.write(self.left_out(sum(finding.follows is None for finding in rest)))
+        self.write(self.left_out(sum(map(self.is_entry, rest))))
         self.write(self.summary(results))
 
     def all_places(self, findings: Iterable[Finding], results: Results) -> None:
         for finding in findings:
-            if finding.follows is None:
+            if self.is_entry(finding):
                 self.place(finding, seen=seen_text(results, finding))
+
+    def is_entry(self, finding: Finding) -> bool:
+        """Whether a finding is more than a line under another one, or part of a count."""
+        return finding.follows is None or (self.has_all_places and not finding.shares_block)
 
     def new_places(self, findings: Iterable[Finding], _: Results) -> None:
         """Writes findings at once, without counts."""
@@ -137,15 +142,24 @@ class Text:
             yield from self.stack(stack)
 
     def also(self, finding: Finding) -> Iterator[str]:
-        """Where else there were reports of this class on the same block or variable."""
-        # A call that reads and writes has two.
-        others = [it for it in finding.also if (it.top, it.what) != (finding.top, finding.what)]
-        for other in others[:MAX_ALSO]:
+        """Where else there were reports on the same block or variable, each line of source once, and how many others
+        may follow from this one."""
+        named = {line_of(finding)}
+        count = 0 if self.has_all_places else len(finding.later)
+        for other in finding.also:
+            if line_of(other) in named:
+                continue
+            if len(named) > MAX_ALSO and not self.has_all_places:
+                count += 1
+                continue
+            named.add(line_of(other))
             times = f" ({other.count} times)" if other.count > 1 else ""
             where = f", {printable(other.where_again)}" if other.block else ""
             yield f"  also at {self.place_of(other.top)}: {printable(other.what)}{where}{times}"
-        if len(others) > MAX_ALSO:
-            yield f"  also at {plural(len(others) - MAX_ALSO, 'more place')}"
+        if count:
+            shows = "it" if count == 1 else "them"
+            yield (f"  {plural(count, 'later report')} of this process may follow from this; --all-places shows "
+                   f"{shows}")
 
     def frame_file(self, finding: Finding) -> str:
         """Returns where the function is whose frame has the variable."""
@@ -221,11 +235,16 @@ class Text:
             yield f"SUMMARY: asancol: {finding.class_name} {self.place_of(finding.top)}"
 
     def crashes(self, results: Results, processes: Iterable[Process]) -> Iterator[str]:
-        """Where processes were when signals ended them. It is no report."""
+        """Where processes were when signals ended them. It is no report. What may follow from one has no stack."""
         stacks: Dict[Stack, List[Process]] = {}
         for process in processes:
             stacks.setdefault(process.stack, []).append(process)
         for stack, those in stacks.items():
+            crash = results.crash_of(those[0])
+            if crash is not None and crash.follows is not None and not self.has_all_places:
+                place = f" at {self.place_of(crash.top)}" if stack else ""
+                yield from lines_of(those, lambda it: f"{it.end}{place}, after its reports")
+                continue
             yield from lines_of(those, lambda it: it.end + printable(it.threads.where(it.threads.access)))
             yield from self.stack(stack, next(iter(own_calls(stack)), None))
             yield from self.threads(those[0].threads)
@@ -251,6 +270,12 @@ def variables_text(block: Optional[Block], bad: int) -> Iterator[str]:
         yield f"    [{it.offset}, {it.end}) '{printable(it.name)}'{line}{mark}"
     if len(block.variables) > MAX_VARIABLES:
         yield f"    and {len(block.variables) - MAX_VARIABLES} more"
+
+
+def line_of(finding: Finding) -> Tuple[str, int]:
+    """Returns the line of source of a place; without one, where it is in its module."""
+    top = finding.top
+    return (top.file, top.line) if top.line else (top.module, top.offset)
 
 
 def relation(offset: int, variable: Variable) -> str:

@@ -43,7 +43,7 @@ def causes_come_first(folder: str) -> None:
         index = [0, 0, 0, 0]
         index[early - 1], index[late - 1] = 1, 2
         faults = [fault(program.places["use"], 0x2000, 16, program.places["make"], program.places["drop"]),
-                  fault(program.places["drop"], 0x1000, 8, program.places["make"])]
+                  fault(program.places["make"], 0x1000, 8, program.places["make"])]
         write_trace(folder, "a.trace", "".join(sorted([line(early, "fd"), line(late, "05", 0x1008)],
                                                       key=str.split)) + END,
                     of_program(program, faults, index))
