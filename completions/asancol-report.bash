@@ -10,16 +10,16 @@ _asancol_report() {
         word=
     fi
     case $before in
-    --json | --sarif | --junit | --codequality | --html | --log-path | --suppressions | --baseline)
+    --json | --sarif | --junit | --codequality | --markdown | --html | --log-path | --suppressions | --baseline)
         mapfile -t COMPREPLY < <(compgen -f -- "$word")
         compopt -o filenames 2> /dev/null
         return
         ;;
-    --source-url | --quarantine | --memory | --limit)
+    --source-url | --category | --quarantine | --memory | --limit)
         return
         ;;
     --format)
-        mapfile -t COMPREPLY < <(compgen -W 'asancol asan' -- "$word")
+        mapfile -t COMPREPLY < <(compgen -W 'asancol asan gcc github' -- "$word")
         return
         ;;
     --source-root)
@@ -41,10 +41,10 @@ _asancol_report() {
         ;;
     esac
     if [[ $word == -* ]]; then
-        mapfile -t COMPREPLY < <(compgen -W '--json --sarif --junit --codequality --html --source-url --format --log-path
-            --live --crashes --source-root --color --full-stacks --all-places --shadow --unchecked --no-machines --quiet
-            --leaks --suppressions --gen-suppressions --baseline --trace --quarantine --memory --limit --run --help
-            --version' -- "$word")
+        mapfile -t COMPREPLY < <(compgen -W '--json --sarif --junit --codequality --markdown --html --source-url
+            --category --format --log-path --live --crashes --source-root --color --full-stacks --all-places --shadow
+            --unchecked --no-machines --quiet --leaks --suppressions --gen-suppressions --baseline --trace --quarantine
+            --memory --limit --run --help --version' -- "$word")
     else
         local end='*.jsonl'
         [[ " ${COMP_WORDS[*]} " == *' --trace '* ]] && end='*.trace'

@@ -9,9 +9,9 @@ _asancol_run() {
         case $ended${COMP_WORDS[at]} in
         --) ended=' ' ;;
         --exitcode | --error-exitcode | --incomplete-exitcode | --nothing-exitcode | --at-least | --wait | --timeout | \
-            --json | --sarif | --junit | --codequality | --html | --source-url | --keep | --log-file | --format | \
-            --log-path | --source-root | --color | --unchecked | --leaks | --suppressions | --baseline | \
-            --quarantine | --memory | --limit)
+            --json | --sarif | --junit | --codequality | --markdown | --html | --source-url | --category | --keep | \
+            --log-file | --format | --log-path | --source-root | --color | --unchecked | --leaks | --suppressions | \
+            --baseline | --quarantine | --memory | --limit)
             ((at++))
             [[ ${COMP_WORDS[at]} == = ]] && ((at++))
             ;;
@@ -31,10 +31,11 @@ _asancol_run() {
     fi
     case $before in
     --exitcode | --error-exitcode | --incomplete-exitcode | --nothing-exitcode | --at-least | --wait | --timeout | \
-        --source-url | --quarantine | --memory | --limit)
+        --source-url | --category | --quarantine | --memory | --limit)
         return
         ;;
-    --json | --sarif | --junit | --codequality | --html | --log-file | --log-path | --suppressions | --baseline)
+    --json | --sarif | --junit | --codequality | --markdown | --html | --log-file | --log-path | --suppressions | \
+        --baseline)
         mapfile -t COMPREPLY < <(compgen -f -- "$word")
         compopt -o filenames 2> /dev/null
         return
@@ -45,7 +46,7 @@ _asancol_run() {
         return
         ;;
     --format)
-        mapfile -t COMPREPLY < <(compgen -W 'asancol asan' -- "$word")
+        mapfile -t COMPREPLY < <(compgen -W 'asancol asan gcc github' -- "$word")
         return
         ;;
     --color)
@@ -63,10 +64,10 @@ _asancol_run() {
     esac
     if [[ $word == -* && -z $ended ]]; then
         mapfile -t COMPREPLY < <(compgen -W '--exitcode --error-exitcode --incomplete-exitcode --nothing-exitcode
-            --at-least --wait --timeout --json --sarif --junit --codequality --html --source-url --keep --log-file
-            --format --log-path --live --crashes --source-root --color --full-stacks --all-places --shadow --unchecked
-            --quiet --verbose --leaks --suppressions --gen-suppressions --baseline --quarantine --no-mismatches --full
-            --preload --memory --limit --help --version --' -- "$word")
+            --at-least --wait --timeout --json --sarif --junit --codequality --markdown --html --source-url --category
+            --keep --log-file --format --log-path --live --crashes --source-root --color --full-stacks --all-places
+            --shadow --unchecked --quiet --verbose --leaks --suppressions --gen-suppressions --baseline --quarantine
+            --no-mismatches --full --preload --memory --limit --help --version --' -- "$word")
     else
         mapfile -t COMPREPLY < <(compgen -c -- "$word"; compgen -f -- "$word")
     fi

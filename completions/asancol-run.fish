@@ -15,7 +15,7 @@ function _asancol_run_takes -a what
             case nono--
                 set ends yes
             case 'nono--*=*'
-            case nono--exitcode nono--error-exitcode nono--incomplete-exitcode nono--nothing-exitcode nono--at-least nono--wait nono--timeout nono--json nono--sarif nono--junit nono--codequality nono--html nono--source-url nono--keep nono--log-file nono--format nono--log-path nono--source-root nono--color nono--unchecked nono--leaks nono--suppressions nono--baseline nono--quarantine nono--memory nono--limit
+            case nono--exitcode nono--error-exitcode nono--incomplete-exitcode nono--nothing-exitcode nono--at-least nono--wait nono--timeout nono--json nono--sarif nono--junit nono--codequality nono--markdown nono--html nono--source-url nono--category nono--keep nono--log-file nono--format nono--log-path nono--source-root nono--color nono--unchecked nono--leaks nono--suppressions nono--baseline nono--quarantine nono--memory nono--limit
                 set skips yes
             case 'nono-*'
             case '*'
@@ -29,7 +29,7 @@ function _asancol_run_takes -a what
     end
 end
 
-complete -c asancol-run -n '_asancol_run_takes command' -x -a '(__fish_complete_subcommand --fcs-skip=1 - --exitcode --error-exitcode --incomplete-exitcode --nothing-exitcode --at-least --wait --timeout --json --sarif --junit --codequality --html --source-url --keep --log-file --format --log-path --source-root --color --unchecked --leaks --suppressions --baseline --quarantine --memory --limit)'
+complete -c asancol-run -n '_asancol_run_takes command' -x -a '(__fish_complete_subcommand --fcs-skip=1 - --exitcode --error-exitcode --incomplete-exitcode --nothing-exitcode --at-least --wait --timeout --json --sarif --junit --codequality --markdown --html --source-url --category --keep --log-file --format --log-path --source-root --color --unchecked --leaks --suppressions --baseline --quarantine --memory --limit)'
 complete -c asancol-run -n '_asancol_run_takes option' -l exitcode -x -d 'status if a report counts'
 complete -c asancol-run -n '_asancol_run_takes option' -l error-exitcode -x -d 'status if a report counts'
 complete -c asancol-run -n '_asancol_run_takes option' -l incomplete-exitcode -x -d 'status if the run was incomplete'
@@ -41,11 +41,13 @@ complete -c asancol-run -n '_asancol_run_takes option' -l json -r -F -d 'JSON li
 complete -c asancol-run -n '_asancol_run_takes option' -l sarif -r -F -d 'SARIF 2.1.0, for code scanning'
 complete -c asancol-run -n '_asancol_run_takes option' -l junit -r -F -d 'JUnit XML: a test case for each run'
 complete -c asancol-run -n '_asancol_run_takes option' -l codequality -r -F -d 'a Code Quality report of GitLab'
+complete -c asancol-run -n '_asancol_run_takes option' -l markdown -r -F -d 'a summary in Markdown, for the page of a CI job'
 complete -c asancol-run -n '_asancol_run_takes option' -l html -r -F -d 'a page that needs no other file and no network'
-complete -c asancol-run -n '_asancol_run_takes option' -l source-url -x -d 'address of a line of source, for links of --html'
+complete -c asancol-run -n '_asancol_run_takes option' -l source-url -x -d 'address of a line of source, for --html, --markdown'
+complete -c asancol-run -n '_asancol_run_takes option' -l category -x -d 'what tells this result from others, in --sarif'
 complete -c asancol-run -n '_asancol_run_takes option' -l keep -x -a '(__fish_complete_directories)' -d 'keep the traces of processes with reports'
 complete -c asancol-run -n '_asancol_run_takes option' -l log-file -r -F -d 'write all lines here, not to standard error'
-complete -c asancol-run -n '_asancol_run_takes option' -l format -x -a 'asancol asan' -d 'text of reports: asancol or asan'
+complete -c asancol-run -n '_asancol_run_takes option' -l format -x -a 'asancol asan gcc github' -d 'reports as asancol, asan, gcc or github'
 complete -c asancol-run -n '_asancol_run_takes option' -l log-path -x -d 'write the text of asan to PREFIX.PID, too'
 complete -c asancol-run -n '_asancol_run_takes option' -l live -d 'print reports when their process ends'
 complete -c asancol-run -n '_asancol_run_takes option' -l crashes -d 'count crashes that a parent waited for, too'

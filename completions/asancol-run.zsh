@@ -14,11 +14,13 @@ _arguments -S \
     '--sarif=[SARIF 2.1.0, for code scanning]:file:_files' \
     '--junit=[JUnit XML: a test case for each run]:file:_files' \
     '--codequality=[a Code Quality report of GitLab]:file:_files' \
+    '--markdown=[a summary in Markdown, for the page of a CI job]:file:_files' \
     '--html=[a page that needs no other file and no network]:file:_files' \
-    '--source-url=[address of a line of source, for links of --html]:url' \
+    '--source-url=[address of a line of source, for --html, --markdown]:url' \
+    '--category=[what tells this result from others, in --sarif]:name' \
     '--keep=[keep the traces of processes with reports]:folder:_files -/' \
     '--log-file=[write all lines here, not to standard error]:file:_files' \
-    '--format=[text of reports: asancol or asan]:form:(asancol asan)' \
+    '--format=[reports as asancol, asan, gcc or github]:form:(asancol asan gcc github)' \
     '--log-path=[write the text of asan to PREFIX.PID, too]:file:_files' \
     '--live[print reports when their process ends]' \
     '--crashes[count crashes that a parent waited for, too]' \

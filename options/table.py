@@ -14,8 +14,8 @@ value above it, and a line that begins with `#` is a comment. The first line of 
     Option: -x, --NAME V   an option, with its letter and the name of its value if it has them; or with one dash alone
     Alias:                 another name for it
     Takes:                 a number, LEAST to MOST, or seconds or octal digits; a file to write, or to read; a file to
-                           read, PATTERN; a folder; the beginning of a name; a URL; a command; a group; WORD, WORD..; or
-                           `as PROGRAM`: what that has, with its default
+                           read, PATTERN; a folder; the beginning of a name; a name; a URL; a command; a group; WORD,
+                           WORD..; or `as PROGRAM`: what that has, with its default
     Default:               what it is if the option is not given
     Repeats:               `yes` if each of several counts
     Sets:                  the field of `struct options` (run/options.h)
@@ -42,7 +42,7 @@ class Wrong(Exception):
 class Takes(NamedTuple):
     """What values an option takes."""
 
-    kind: str  # flag, number, seconds, digits, output, input, folder, prefix, url, command, group or words
+    kind: str  # flag, number, seconds, digits, output, input, folder, prefix, name, url, command, group or words
     least: str = ""
     most: str = ""
     words: Tuple[str, ...] = ()
@@ -54,6 +54,7 @@ KINDS = {
     "a file to read": "input",
     "a folder": "folder",
     "the beginning of a name": "prefix",
+    "a name": "name",
     "a URL": "url",
     "a command": "command",
     "a group": "group",

@@ -20,12 +20,14 @@
     "  --sarif FILE             SARIF 2.1.0, for code scanning\n" \
     "  --junit FILE             JUnit XML: a test case for each run\n" \
     "  --codequality FILE       a Code Quality report of GitLab\n" \
+    "  --markdown FILE          a summary in Markdown, for the page of a CI job\n" \
     "  --html FILE              a page that needs no other file and no network\n" \
-    "  --source-url URL         address of a line of source, for links of --html\n" \
+    "  --source-url URL         address of a line of source, for --html, --markdown\n" \
+    "  --category NAME          what tells this result from others, in --sarif\n" \
     "  --keep DIR               keep the traces of processes with reports\n" \
     "Text:\n" \
     "  --log-file FILE          write all lines here, not to standard error\n" \
-    "  --format FORM            text of reports: asancol or asan (asancol)\n" \
+    "  --format FORM            reports as asancol, asan, gcc or github (asancol)\n" \
     "  --log-path PREFIX        write the text of asan to PREFIX.PID, too\n" \
     "  --live                   print reports when their process ends\n" \
     "  --crashes                count crashes that a parent waited for, too\n" \
@@ -74,11 +76,13 @@
     {"sarif", 0, PASS_OUTPUT, 0, 0, 0, NULL}, \
     {"junit", 0, PASS_OUTPUT, 0, 0, 0, NULL}, \
     {"codequality", 0, PASS_OUTPUT, 0, 0, 0, NULL}, \
+    {"markdown", 0, PASS_OUTPUT, 0, 0, 0, NULL}, \
     {"html", 0, PASS_OUTPUT, 0, 0, 0, NULL}, \
     {"source-url", 0, PASS_URL, 0, 0, 0, NULL}, \
+    {"category", 0, PASS_NAME, 0, 0, 0, NULL}, \
     {"keep", 0, SET_FOLDER, AT(keep), 0, 0, NULL}, \
     {"log-file", 0, SET_OUTPUT, AT(log), 0, 0, NULL}, \
-    {"format", 0, PASS_WORDS, 0, 0, 0, (const char *const[]){"asancol", "asan", NULL}}, \
+    {"format", 0, PASS_WORDS, 0, 0, 0, (const char *const[]){"asancol", "asan", "gcc", "github", NULL}}, \
     {"log-path", 0, PASS_PREFIX, 0, 0, 0, NULL}, \
     {"live", 0, PASS_FLAG, AT(live), 0, 0, NULL}, \
     {"crashes", 0, PASS_FLAG, AT(crashes), 0, 0, NULL}, \

@@ -45,6 +45,7 @@ enum action {
     PASS_OUTPUT, /* a file that the report writes */
     PASS_FOLDER, /* a folder that the report is given */
     PASS_PREFIX, /* the beginning of the names of files that the report writes */
+    PASS_NAME,   /* a word for the report */
     PASS_URL,    /* a template of addresses, for the report */
     SHOW_HELP,
     SHOW_VERSION
@@ -329,6 +330,7 @@ static void pass_word(struct options *options, const struct option *option, cons
         options->unchecked = (enum unchecked)place;
     if (option->offset == AT(leaks))
         options->leaks = (enum leaks)place;
+    options->has_output |= strcmp(value, "github") == 0; /* annotations are made by the report alone */
     pass(options, dashed, value);
 }
 
@@ -391,6 +393,9 @@ static void take_value(struct options *options, const struct option *option, con
         break;
     case PASS_WORDS:
         pass_word(options, option, dashed, value);
+        break;
+    case PASS_NAME:
+        pass(options, dashed, value);
         break;
     case PASS_URL:
         pass_url(options, dashed, value);

@@ -7,7 +7,7 @@ import os
 import shutil
 import socket
 import subprocess
-from typing import Any, Callable, Dict, Optional
+from typing import Any, Callable, Dict, Optional, Sequence
 
 from asancol_report import option_table
 from .expectations import LeftOut
@@ -144,8 +144,8 @@ class Feed:
         for each in descriptors:
             os.close(each)
 
-    def begin(self, identity: str = "run-1") -> None:
-        self.send({"type": "run", "version": 1, "command": ["make", "check"], "host": "box", "directory": "/tmp",
+    def begin(self, identity: str = "run-1", command: Sequence[str] = ("make", "check")) -> None:
+        self.send({"type": "run", "version": 1, "command": list(command), "host": "box", "directory": "/tmp",
                    "id": identity, "time": 1700000000})
 
     def asking(self, number: int, verdicts: str, parts: Parts, is_gone: bool = False, **more: object) -> str:

@@ -8,7 +8,8 @@ In the order in which data flows:
 - `verdicts` and `side` read what a process left. `modules`, `elf` and `symbols` turn addresses into frames. `gather`
   puts them together to findings.
 - `findings` and `results` are what all of this comes to. `suppressions` and `baseline` say what of it counts.
-- `text`, `asan_text`, `log_path`, `json_lines`, `sarif`, `junit`, `code_quality` and `html` write it, through `files`.
+- `text`, `asan_text`, `gcc_text`, `github_text`, `log_path`, `json_lines`, `sarif`, `junit`, `code_quality`, `markdown`
+  and `html` write it, through `files`. `alerts` has what those share that show a place as one alert.
 """
 
 import os

@@ -4,40 +4,35 @@ from __future__ import annotations
 
 import hashlib
 import json
-import os
 from typing import Dict, TextIO
 
-from .findings import Finding, Frame
+from .alerts import ERROR, level_of, place_below, root_of, WARNING, words_of
+from .findings import Finding
 from .options import Options
 from .results import Results
 from .sources import Sources
 from .words import shown_path, whole_characters
 
-
-def place_in(root: str, finding: Finding) -> Frame:
-    """Returns the frame that GitLab can show: that of the place, or if it is not below the root, the first that is."""
-    frames = (finding.top, *finding.stack)
-    return next((it for it in frames if it.line and not shown_path(it.file, root).startswith("/")), finding.top)
+SEVERITIES = {ERROR: "critical", WARNING: "minor"}
 
 
 def entry(finding: Finding, program: str, fingerprint: str, root: str) -> Dict[str, object]:
-    top = place_in(root, finding)
-    near = f", {finding.where}" if finding.where else ""
+    top = place_below(root, finding)
     path = shown_path(top.file or top.module or program, root).lstrip("/")
     return {
         "type": "issue",
-        "description": whole_characters(finding.title + near + finding.judge),
+        "description": whole_characters(words_of(finding)),
         "check_name": finding.class_name,
-        "categories": ["Bug Risk", "Security"],
+        "categories": ["Bug Risk"] if finding.is_leak else ["Bug Risk", "Security"],
         "fingerprint": fingerprint,
-        "severity": "critical",
+        "severity": SEVERITIES[level_of(finding)],
         "location": {"path": whole_characters(path[2:] if path.startswith("./") else path) or "unknown",
                      "lines": {"begin": top.line or 1}},
     }
 
 
 def write(results: Results, out: TextIO, options: Options, sources: Sources) -> None:
-    root = os.path.realpath(options.value("--source-root", "."))
+    root = root_of(options)
     ordinals: Dict[str, int] = {}
     entries = []
     for finding in (it for it in (*results.counted(), *results.counted_crashes()) if it.follows is None):

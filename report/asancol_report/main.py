@@ -29,8 +29,8 @@ if TYPE_CHECKING:
     from .hub import Files
     from .log_path import LogPath
 
-# AddressSanitizer's text.
-ASAN = "asan"
+# Forms of the text.
+ASAN, GCC, GITHUB = "asan", "gcc", "github"
 
 Writer = Callable[[Results, TextIO, Options, Sources], None]
 
@@ -243,7 +243,7 @@ class Report:
         if asks is not None:
             from .hub import answer
             answer(asks, self.halted_text(gatherer.came.findings))
-        if process.is_unsaid and not self.is_log_alone:
+        if process.is_unsaid and not self.is_log_alone and self.options.value("--format") not in (GCC, GITHUB):
             self.print_halted(gatherer.came.findings)
         if self.log is not None:
             self.log.take(gatherer)
@@ -352,11 +352,18 @@ def text_of(options: Options, root: str) -> Text:
     """Returns what writes the text."""
     switches = options.switches
     whole = [path for name, path in options.outputs if name in ("--json", "--html")]
-    if options.value("--format") == ASAN:
+    form, below = options.value("--format"), root or os.getcwd()
+    if form == ASAN:
         from .asan_text import AsanText
         return AsanText(sys.stdout, Colors(False), root, False)
     text = Text(sys.stdout, Colors(has_colors(options)), root, switches["--gen-suppressions"],
                 switches["--full-stacks"], switches["--shadow"], " and ".join(whole))
+    if form == GCC:
+        from .gcc_text import GccText
+        text = GccText(sys.stdout, Colors(False), below, switches["--gen-suppressions"])
+    elif form == GITHUB:
+        from .github_text import GithubText
+        text = GithubText(sys.stdout, Colors(False), below, switches["--gen-suppressions"], switches["--full-stacks"])
     text.has_all_places = switches["--all-places"]
     return text
 
@@ -365,7 +372,9 @@ def has_colors(options: Options) -> bool:
     when = options.value("--color")
     if when != "auto":
         return when == "always"
-    return sys.stdout.isatty() and not os.environ.get("NO_COLOR") and os.environ.get("TERM") != "dumb"
+    if os.environ.get("NO_COLOR"):
+        return False
+    return bool(os.environ.get("FORCE_COLOR")) or (sys.stdout.isatty() and os.environ.get("TERM") != "dumb")
 
 
 def set_signals(is_fed: bool) -> None:

@@ -10,10 +10,12 @@ Output files:
   --sarif FILE         SARIF 2.1.0, for code scanning
   --junit FILE         JUnit XML: a test case for each run
   --codequality FILE   a Code Quality report of GitLab
+  --markdown FILE      a summary in Markdown, for the page of a CI job
   --html FILE          a page that needs no other file and no network
-  --source-url URL     address of a line of source, for links of --html
+  --source-url URL     address of a line of source, for --html, --markdown
+  --category NAME      what tells this result from others, in --sarif
 Text:
-  --format FORM        text of reports: asancol or asan (asancol)
+  --format FORM        reports as asancol, asan, gcc or github (asancol)
   --log-path PREFIX    write the text of asan to PREFIX.PID, too
   --live               print the first report of each place when it comes
   --crashes            count crashes that a parent waited for, too
@@ -48,6 +50,7 @@ OUTPUTS = {
     "--sarif": "sarif",
     "--junit": "junit",
     "--codequality": "code_quality",
+    "--markdown": "markdown",
     "--html": "html",
 }
 SHORT = {
@@ -55,7 +58,7 @@ SHORT = {
     "-h": "--help",
 }
 WORDS = {
-    "--format": ("asancol", "asan"),
+    "--format": ("asancol", "asan", "gcc", "github"),
     "--color": ("auto", "always", "never"),
     "--leaks": ("yes", "summary", "no"),
     "--unchecked": ("list", "list-all", "no", "error"),
@@ -76,8 +79,10 @@ WITH_VALUE = (
     "--sarif",
     "--junit",
     "--codequality",
+    "--markdown",
     "--html",
     "--source-url",
+    "--category",
     "--format",
     "--log-path",
     "--source-root",

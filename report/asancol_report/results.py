@@ -4,6 +4,7 @@ from __future__ import annotations
 
 import hashlib
 import os
+from collections import Counter
 from typing import Dict, Iterable, List, NamedTuple, Optional, Tuple
 
 from .consequences import fold
@@ -141,6 +142,7 @@ class Sightings(NamedTuple):
     """In which runs a finding was seen, on which machines, and when these began: seconds since 1970, 0 if unknown."""
 
     runs: int
+    of_command: int  # how many runs have one of the commands of these
     machines: List[str]  # those that are known, by name
     first: float
     last: float
@@ -167,6 +169,8 @@ class Results:
         self.bases: Dict[Tuple[int, int], Dict[str, int]] = {}
         self.has_addresses = False
         self.has_log = False  # each process has a file of its own
+        self.runs_counted = 0  # of which `commands` has the commands
+        self.commands: Counter[Tuple[str, ...]] = Counter()
 
     def add_run(self, run: Run) -> Optional[int]:
         """Adds a run and returns its number. None, if it is there already. One that was cut gives way to its whole."""
@@ -251,11 +255,20 @@ class Results:
                                     is_awaited=before.is_awaited and tally.is_awaited)
         finding.runs[run] = tally
 
+    def command_counts(self) -> Counter[Tuple[str, ...]]:
+        """Returns how many runs have each command. There may be a hundred thousand: they are counted once."""
+        if self.runs_counted != len(self.runs):
+            self.runs_counted = len(self.runs)
+            self.commands = Counter(run.command for run in self.runs)
+        return self.commands
+
     def sightings(self, finding: Finding) -> Sightings:
         """Returns where and when a finding was seen. The order of the runs changes nothing."""
         runs = [self.runs[number] for number in finding.runs]
+        counts = self.command_counts()
+        of_command = sum(counts[command] for command in {run.command for run in runs})
         first = min(((run.time, run.host) for run in runs if run.time), default=(0.0, ""))
-        return Sightings(len(runs), sorted({run.host for run in runs if run.host}), first[0],
+        return Sightings(len(runs), of_command, sorted({run.host for run in runs if run.host}), first[0],
                          max(run.time for run in runs), first[1])
 
     def bases_of(self, finding: Finding) -> Dict[str, int]:

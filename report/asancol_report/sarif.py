@@ -8,6 +8,8 @@ from typing import Any, Dict, List, Optional, TextIO, Tuple
 from urllib.parse import quote
 
 from . import RELEASE
+from .alerts import level_of, root_of, steps_of, WARNING, words_of
+from .class_names import INDIRECT_LEAK, LEAK
 from .classes import advice_for, what_is
 from .crashes import AWAITED
 from .findings import Finding, Frame, own_frames, place_text, Stack, SYSTEM_LIBRARY
@@ -15,6 +17,7 @@ from .json_lines import RECORDER
 from .options import Options
 from .results import Process, Results, Run, Sightings
 from .sources import Sources
+from .weaknesses import WEAKNESS_URL, weakness_of
 from .words import command_line, date_and_time, shown_path, signal_name, whole_characters
 
 SCHEMA = "https://json.schemastore.org/sarif-2.1.0.json"
@@ -71,15 +74,6 @@ def stack(title: str, frames: Stack, root: str) -> Part:
                        if frame.module else {"location": location(frame, root)} for frame in frames]}
 
 
-def steps_of(finding: Finding) -> List[Tuple[str, Stack]]:
-    """Returns what happened, in the order of time."""
-    threads = finding.threads
-    steps = [(f"block allocated{threads.where(threads.allocated, finding.allocated)} here", finding.allocated),
-             (f"block freed{threads.where(threads.freed, finding.freed)} here", finding.freed),
-             (f"{finding.what}{threads.where(threads.access)} here", finding.stack)]
-    return [(title, frames) for title, frames in steps if frames]
-
-
 def stacks_of(finding: Finding) -> List[Tuple[str, Stack]]:
     """Returns where things happened, the last first, and then where the threads were created that have done them."""
     created = [(title[:-len(" at")] + " here", frames) for title, frames in finding.threads.titles() if frames]
@@ -87,7 +81,7 @@ def stacks_of(finding: Finding) -> List[Tuple[str, Stack]]:
 
 
 def properties(finding: Finding, seen: Sightings, process: Optional[Process]) -> Part:
-    made: Part = {"processes": finding.processes, "runs": seen.runs}
+    made: Part = {"processes": finding.processes, "runs": seen.runs, "runsOfCommand": seen.of_command}
     if finding.by_recorder:
         made["by"] = RECORDER
     if finding.is_forgotten:
@@ -102,13 +96,12 @@ def properties(finding: Finding, seen: Sightings, process: Optional[Process]) ->
 
 def result(finding: Finding, results: Results, rule: int, ordinal: int, root: str) -> Part:
     steps, seen = steps_of(finding), results.sightings(finding)
-    near = f", {finding.where}" if finding.where else ""
     made: Part = {
         "ruleId": finding.class_name,
         "ruleIndex": rule,
-        "level": "error",
+        "level": level_of(finding),
         "kind": "fail",
-        "message": message(finding.title + near + finding.judge),
+        "message": message(words_of(finding)),
         "locations": [location(finding.top, root, program=results.program_of(finding))],
         "partialFingerprints": {"asancol/v1": finding.fingerprint,
                                 "primaryLocationLineHash": f"{finding.fingerprint}:{ordinal}"},
@@ -143,16 +136,25 @@ def results_of(results: Results, rules: List[str], root: str) -> List[Part]:
 
 def rule(name: str) -> Part:
     short, advice = what_is(name), advice_for(name)
-    return {
+    weakness = weakness_of(name)
+    made: Part = {
         "id": name,
         "name": "".join(word[:1].upper() + word[1:] for word in name.split("-")),
         "shortDescription": {"text": short},
         "fullDescription": {"text": f"{short}. {advice}"},
         "help": {"text": f"{short}. {advice}", "markdown": f"**{name}**: {short}.\n\n{advice}"},
-        "defaultConfiguration": {"level": "error"},
-        "properties": {"tags": ["security", "memory"], "precision": "very-high", "problem.severity": "error",
-                       "security-severity": SEVERITY},
     }
+    if weakness:
+        made["helpUri"] = WEAKNESS_URL.format(weakness)
+    tags = ["memory", *[f"external/cwe/cwe-{weakness:03}"] * bool(weakness)]
+    if name in (LEAK, INDIRECT_LEAK):
+        made["defaultConfiguration"] = {"level": WARNING}
+        made["properties"] = {"tags": tags, "precision": "very-high", "problem.severity": WARNING}
+    else:
+        made["defaultConfiguration"] = {"level": "error"}
+        made["properties"] = {"tags": ["security", *tags], "precision": "very-high", "problem.severity": "error",
+                              "security-severity": SEVERITY}
+    return made
 
 
 def invocation(run: Run) -> Part:
@@ -189,7 +191,7 @@ def stamp(seconds: float) -> str:
 
 
 def write(results: Results, out: TextIO, options: Options, sources: Sources) -> None:
-    root = os.path.realpath(options.value("--source-root", "."))
+    root = root_of(options)
     rules = sorted({finding.class_name for finding in results.all_places()})
     driver = {"name": "asancol", "version": RELEASE, "semanticVersion": RELEASE,
               "rules": [rule(name) for name in rules]}
@@ -198,6 +200,9 @@ def write(results: Results, out: TextIO, options: Options, sources: Sources) -> 
         "originalUriBaseIds": {ROOT: {"uri": "file://" + uri(root.rstrip("/")) + "/"}},
         "columnKind": "unicodeCodePoints",
     }
+    if options.value("--category"):
+        # Code scanning takes what stands before the last slash for the category.
+        run["automationDetails"] = {"id": whole_characters(options.value("--category").rstrip("/") + "/")}
     if results.notes:
         run["properties"] = {"notes": [whole_characters(note) for note in results.notes]}
     # There may be a hundred thousand runs: each has a line, and is encoded when it is written.

@@ -311,6 +311,8 @@ def seen_text(results: Results, finding: Finding) -> str:
         return ""
     seen = results.sightings(finding)
     text = f"seen in {plural(seen.runs, 'run')}"
+    if seen.runs < seen.of_command:
+        text = f"seen in {seen.runs} of {seen.of_command} runs"
     if seen.machines:
         text += f" on {plural(len(seen.machines), 'machine')}"
     if seen.first:

@@ -39,7 +39,7 @@ def write_farm(folder: str) -> None:
     write_result(folder, "farm/4", "beta", START + DAY, 9)
 
 
-SEEN = "  seen in 3 runs on 2 machines, first 2023-11-14 22:13:20 UTC on alpha\n"
+SEEN = "  seen in 3 of 4 runs on 2 machines, first 2023-11-14 22:13:20 UTC on alpha\n"
 
 
 @report_test
@@ -50,7 +50,7 @@ def machines_are_counted(folder: str) -> None:
     for files in (names, names[::-1]):
         ran = report(folder, *files, "--json", "all.jsonl")
         expect(ran.status, 1, ran.err)
-        expect_in(ran.out, SEEN, "  seen in 1 run on 1 machine, first 2023-11-15 22:13:20 UTC on beta\n",
+        expect_in(ran.out, SEEN, "  seen in 1 of 4 runs on 1 machine, first 2023-11-15 22:13:20 UTC on beta\n",
                   "(9 times, 3 processes)", "12 reports at 2 places; 4 processes in 4 runs")
         again = report(folder, "all.jsonl", "farm/4.jsonl")
         expect((again.status, again.out), (1, ran.out), "merged again")
@@ -67,7 +67,7 @@ def folders_stand_for_results(folder: str) -> None:
     ran = report(folder, "farm")
     expect((ran.status, ran.err), (1, ""), "a folder")
     expect_in(ran.out, SEEN, "in 4 runs")
-    expect(report(folder, "farm/1.jsonl", "farm").out.count("4 runs"), 1, "a file and its folder")
+    expect(report(folder, "farm/1.jsonl", "farm").out.count("processes in 4 runs"), 1, "a file and its folder")
     os.mkdir(f"{folder}/empty")
     ran = report(folder, "empty")
     expect(ran.status, 3, "nothing is there")
@@ -85,7 +85,8 @@ def machines_are_in_the_outputs(folder: str) -> None:
     report(folder, "farm", "--sarif", "out.sarif", "--html", "out.html")
     with open(f"{folder}/out.sarif", encoding="utf-8") as file:
         many, _ = json.load(file)["runs"][0]["results"]
-    expect(many["properties"], {"processes": 3, "runs": 3, "machines": ["alpha", "beta"], "machineCount": 2}, "SARIF")
+    expect(many["properties"], {"processes": 3, "runs": 3, "runsOfCommand": 4, "machines": ["alpha", "beta"],
+                                "machineCount": 2}, "SARIF")
     expect(many["provenance"], {"firstDetectionTimeUtc": "2023-11-14T22:13:20Z",
                                 "lastDetectionTimeUtc": "2023-11-16T22:13:20Z"}, "times")
     with open(f"{folder}/out.html", encoding="utf-8") as file:
@@ -106,10 +107,10 @@ def machines_are_left_out(folder: str) -> None:
             with open(f"{folder}/{form}", encoding="utf-8") as file:
                 texts.append(file.read())
             expect_not_in(texts[-1], "alpha", "beta", "gamma", "2023-11", str(START)[:6])
-        expect_in(ran.out, "  seen in 3 runs\n")
+        expect_in(ran.out, "  seen in 3 of 4 runs\n")
         outputs.append(texts)
     expect(outputs[0], outputs[1], "outputs")
-    expect_in(report(folder, "json").out, "  seen in 3 runs\n")
+    expect_in(report(folder, "json").out, "  seen in 3 of 4 runs\n")
 
 
 @report_test
@@ -119,7 +120,7 @@ def machines_are_not_known(folder: str) -> None:
     write_result(folder, "2", "", START)
     write_result(folder, "3", "", 0, 9)
     text = report(folder, "1.jsonl", "2.jsonl", "3.jsonl").out
-    expect_in(text, "  seen in 2 runs, first 2023-11-14 22:13:20 UTC\n", "  seen in 1 run\n")
+    expect_in(text, "  seen in 2 of 3 runs, first 2023-11-14 22:13:20 UTC\n", "  seen in 1 of 3 runs\n")
     write_result(folder, "4", "a\x1b[2Jb", -1, time=1e300)
     text = report(folder, "1.jsonl", "4.jsonl").out
     expect_in(text, "  seen in 2 runs on 1 machine\n")

@@ -152,7 +152,7 @@ def sarif_has_its_schema(folder: str) -> None:
     with open(f"{os.path.dirname(__file__)}/sarif-schema.json", encoding="utf-8") as file:
         schema = json.load(file)
     one_trace(folder)
-    jsonschema.validate(sarif_of(folder), schema)
+    jsonschema.validate(sarif_of(folder, "--category", "gcc"), schema)
     for name, verdicts, parts in (
         ("empty", "p0 end closed events 0 offset 9 reports 0\n", side()),
         ("cut", FREED + "p0 end no-close events 9 offset 9 reports 1\n", side(ending=4)),

@@ -248,7 +248,7 @@ def check_help(suite: Suite, folder: str) -> None:
         ran = suite.run(word)
         expect((ran.status, ran.err), (0, ""), word)
         lines = ran.out.splitlines()
-        if len(lines) > 45 or max(len(it) for it in lines) > 80:
+        if len(lines) > 48 or max(len(it) for it in lines) > 80:
             raise Failure(f"the help has {len(lines)} lines, and up to {max(len(it) for it in lines)} columns")
     expect(suite.run("--version").out.split()[0], "asancol-run", "version")
     expect(suite.run("-q", "--help").status, 0, "help after another option")

@@ -215,6 +215,20 @@ def check_colors(suite: Suite, folder: str) -> None:
     expect((PAST in text, "\033" in text), (True, False), "a log file has no colors")
 
 
+def check_forms(suite: Suite, folder: str) -> None:
+    """Lines as GCC's and annotations stand for reports, halts and incomplete runs, also without a report."""
+    past = r"programs\.c:\d+:\d+: error: heap-buffer-overflow: store of 1 byte in store_past"
+    for settings in ({}, {"ASANCOL_HALT": "1"}):
+        ran = suite.run_argv([RUN, "--format=gcc", "--", suite.program, "past"], ASANCOL_REPORT=REPORT, **settings)
+        expect((ran.status, len(re.findall(past, ran.err))), (99, 1), ran.err)
+        ran = suite.run_argv([RUN, "--format=github", "--", suite.program, "past"], ASANCOL_REPORT=REPORT, **settings)
+        expect((ran.status, len(re.findall("^::error .*title=heap-buffer-overflow in store_past::", ran.err, re.M))),
+               (99, 1), ran.err)
+        expect("AddressSanitizer" in ran.err, False, ran.err)
+    ran = suite.run_argv([RUN, "--format=github", "--", "true"], ASANCOL_REPORT=REPORT)
+    expect_ran(ran, 98, "::error title=incomplete::asancol: NOTHING WAS RECORDED")
+
+
 def check_summaries_are_the_same(suite: Suite, folder: str) -> None:
     """asancol-run and asancol-report say the same of a run without reports."""
     for argv in (
@@ -631,7 +645,8 @@ def check_small_files(suite: Suite, folder: str) -> None:
 def tests(suite: Suite) -> None:
     expect(os.access(CC, os.X_OK), True, "the recorder is built")
     for name, run_it in (
-        ("report", check_report), ("colors", check_colors), ("summaries", check_summaries_are_the_same),
+        ("report", check_report), ("colors", check_colors), ("forms", check_forms),
+        ("summaries", check_summaries_are_the_same),
         ("suppressions", check_suppressed), ("variables", check_variables),
         ("lowered bounds", check_lowered), ("names of classes", check_names), ("short stacks", check_short_stacks),
         ("baseline", check_baseline), ("outputs", check_outputs),
