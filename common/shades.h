@@ -1,7 +1,7 @@
 /* The codes of granules without an addressable byte, and what each means: of the table shades.def.
 
    Called: the codes by any file of the recorder; shade_kind by stream/stating.c, and shade_class by
-   interface/reports.c and process/halt_report.c: in any thread, also in a signal handler; no lock: nothing is kept. */
+   recorder/report/wording.c: in any thread, also in a signal handler; no lock: nothing is kept. */
 #ifndef ASANCOL_SHADES_H
 #define ASANCOL_SHADES_H
 

@@ -1,7 +1,7 @@
 /* Signals and cancellation, kept away from the recorder's own work.
 
    Called: undisturbed_begin and undisturbed_end around work that nothing may interrupt, by any file;
-   signal_take_away by say.c, stream/output.c and process/halt_report.c: in any thread, also in a handler. By
+   signal_take_away by say.c, stream/output.c and report/text.c: in any thread, also in a handler. By
    process/signals.c undisturbed_by_faults as it sets its handlers, and is_undisturbed in a handler of faults. No
    lock: the mask of signals is the thread's own. */
 #ifndef ASANCOL_DISTURBANCE_H

@@ -8,7 +8,7 @@
    unit_write, block_write and block_go has those, or is in its shard, for a unit or a block of that. The other
    functions with a body here need none. The last three (nearest.c) need none either, since they read notes by
    NOTE_NOW: by book.c and differing.c with the allocator's, by stream/near.c (`above`, stream/state.h), interface/,
-   process/halt_report.c and leaks/ with or without: in any thread, also in a handler. */
+   report/describing.c, report/wording.c and leaks/ with or without: in any thread, also in a handler. */
 #ifndef ASANCOL_ARENA_H
 #define ASANCOL_ARENA_H
 

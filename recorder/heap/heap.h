@@ -83,6 +83,9 @@ void heap_poison_count(uintptr_t address) OWN_NAME(heap_poison_count);
 uintptr_t heap_end_around(uintptr_t address);
 /* The start of the live block that has an address, or 0. (process/threads.c; interface/, for the program) */
 uintptr_t heap_start_around(uintptr_t address) OWN_NAME(heap_start_around);
+/* The shadow byte of a granule, if it is not the allocator's poison: outside of live blocks that is a redzone, or freed
+   memory. At any time. (start/start.c, for stream/; report/) */
+unsigned char heap_shade_of(uint64_t granule, unsigned char shade);
 
 /* What the allocator holds. */
 struct heap_numbers {

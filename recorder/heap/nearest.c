@@ -10,6 +10,7 @@
 #include "heap/arena.h"
 #include "heap/blocks.h"
 #include "heap/heap.h"
+#include "heap/paint.h"
 #include "heap/retiring.h"
 #include "shadow/shadow.h"
 #include "stream/near.h"
@@ -210,6 +211,18 @@ bool arena_find_around(uintptr_t address, struct block *block, uintptr_t *start)
     *block = block_now(&slot);
     *start = block_address(block, slot.start);
     return block->state != BLOCK_FREE;
+}
+
+unsigned char heap_shade_of(uint64_t granule, unsigned char shade)
+{
+    struct block block;
+    uintptr_t start;
+    if (shade != SHADE_USER)
+        return shade;
+    if (!arena_find_around(granule, &block, &start))
+        return SHADE_HEAP;
+    unsigned char left = byte_of(start, block.size, block.state == BLOCK_HELD, granule);
+    return addressable_of(left) == 0 ? left : shade;
 }
 
 /* Clang has the count before the elements, which begin at a multiple of their alignment. Elsewhere it may be a part of

@@ -5,8 +5,9 @@
    here came before the record that takes it away, or after the one that gives it.
 
    Called: by allocating.c and freeing.c, in the thread that is in its shard, for that shard's blocks, or has all
-   (blocks.h); paint_released by quarantine.c with all; no further lock. byte_of by book.c, deciding.c and
-   differing.c, and block_shadow by allocating.c and differing.c too: they only compute. Also in a handler. */
+   (blocks.h); paint_released by quarantine.c with all; no further lock. byte_of by book.c, deciding.c,
+   differing.c and nearest.c, and block_shadow by allocating.c and differing.c too: they only compute. Also in a
+   handler. */
 #ifndef ASANCOL_PAINT_H
 #define ASANCOL_PAINT_H
 

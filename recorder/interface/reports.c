@@ -1,6 +1,6 @@
 /* A report is told once for each place, as AddressSanitizer does if it goes on. One thread tells at a time: `telling`
-   is its lock, which guards `report`, its texts and `places`: `tell` takes it, and what finds a class or puts a text
-   runs with it. No thread waits for it, since a callback may do anything: a report that comes meanwhile is dropped. */
+   is its lock, which guards `report`, its texts and `places`: `tell` takes it, and makes the text with it. No thread
+   waits for it, since a callback may do anything: a report that comes meanwhile is dropped. */
 #define _GNU_SOURCE
 #include "interface/reports.h"
 
@@ -14,11 +14,10 @@
 #include "base/lock.h"
 #include "base/system.h"
 #include "heap/heap.h"
-#include "interface/describing.h"
 #include "process/process.h"
-#include "shadow/shadow.h"
+#include "report/code.h"
+#include "report/describing.h"
 #include "stacks/stacks.h"
-#include "stacks/thread_notes.h"
 
 static struct lock telling;
 static struct report report;
@@ -50,132 +49,6 @@ static bool note_place(uintptr_t place)
     return true;
 }
 
-/* Names. */
-
-static const char *class_of_access(const struct told *told)
-{
-    uint64_t bad = shadow_first_bad(told->address, told->size);
-    if (told->call != NULL && told->size > PTRDIFF_MAX)
-        return "negative-size-param";
-    if (is_beyond(bad, 1))
-        return "unknown-crash";
-    unsigned char shade = *shadow_of(bad);
-    return shade_class(shade != 0 && shade < GRANULE ? *shadow_of(bad + GRANULE) : shade);
-}
-
-/* The text may be put together here, and is there up to the next report: one is told at a time. */
-static const char *class_of_finding(const struct told *told)
-{
-    static char name[SIDE_CALL + 16];
-    struct text text = text_in(name, sizeof name);
-    switch (told->finding) {
-    case FINDING_FAMILY:
-        return "alloc-dealloc-mismatch";
-    case FINDING_SIZE:
-    case FINDING_OTHER_ALIGNMENT:
-        return "new-delete-type-mismatch";
-    case FINDING_ALIGNMENT:
-        return "invalid-allocation-alignment";
-    case FINDING_TOO_BIG:
-        return "allocation-size-too-big";
-    case FINDING_NO_MEMORY:
-        return "out-of-memory";
-    case FINDING_ODR:
-        return "odr-violation";
-    case FINDING_SHADOW:
-        return "bad-shadow";
-    case FINDING_POINTERS:
-        return "invalid-pointer-pair";
-    case FINDING_CONTAINER:
-        return "bad-__sanitizer_annotate_contiguous_container";
-    case FINDING_DOUBLE_ENDED:
-        return "bad-__sanitizer_annotate_double_ended_contiguous_container";
-    case FINDING_NOT_OWNED:
-        text_put(&text, "bad-");
-        break;
-    default:
-        break;
-    }
-    text_put(&text, told->call != NULL ? told->call : "unknown");
-    if (told->finding == FINDING_OVERLAP || told->finding == FINDING_OVERFLOW)
-        text_put(&text, told->finding == FINDING_OVERLAP ? "-param-overlap" : "-overflow");
-    return name;
-}
-
-static const char *class_of(const struct told *told)
-{
-    if (told->finding != FINDING_NONE)
-        return class_of_finding(told);
-    if (told->code != CODE_FREE)
-        return class_of_access(told);
-    return !is_beyond(told->address, 1) && *shadow_of(told->address) == SHADE_FREED ? "double-free" : "bad-free";
-}
-
-/* The text, in the form of AddressSanitizer's. */
-
-static void put_first_line(struct text *text, const struct told *told)
-{
-    text_put(text, "==");
-    text_put_number(text, (unsigned)system_getpid());
-    text_put(text, "==ERROR: AddressSanitizer: ");
-    if (told->finding != FINDING_NONE) {
-        text_put(text, report.description);
-        text_put(text, "\n");
-        return;
-    }
-    if (told->code == CODE_FREE) {
-        bool is_double = strcmp(report.description, "double-free") == 0;
-        text_put(text, is_double ? "attempting double-free on "
-                                 : "attempting free on address which was not malloc()-ed: ");
-    } else {
-        text_put(text, report.description);
-        text_put(text, " on address ");
-    }
-    text_put_address(text, told->address, 12);
-    text_put(text, told->code == CODE_FREE ? " in thread T" : " at pc ");
-    if (told->code == CODE_FREE) {
-        text_put_number(text, thread_number());
-    } else {
-        text_put_address(text, report.instruction, 12);
-        text_put(text, " bp ");
-        text_put_address(text, report.frame, 12);
-        text_put(text, " sp ");
-        text_put_address(text, report.stack, 12);
-    }
-    text_put(text, told->code == CODE_FREE ? ":\n" : "\n");
-}
-
-static void put_report(struct text *text, const struct told *told)
-{
-    text_put(text, "=================================================================\n");
-    put_first_line(text, told);
-    if (told->finding == FINDING_NONE && told->code != CODE_FREE) {
-        text_put(text, told->code == CODE_STORE ? "WRITE of size " : "READ of size ");
-        text_put_number(text, told->size);
-        text_put(text, " at ");
-        text_put_address(text, told->address, 12);
-        text_put(text, " thread T");
-        text_put_number(text, thread_number());
-        text_put(text, "\n");
-    }
-    text_put_stack(text, call_site_of(told->caller), 0);
-    if (told->finding == FINDING_NONE)
-        text_put_description(text, told->address);
-    text_put(text, "SUMMARY: AddressSanitizer: ");
-    text_put(text, report.description);
-    text_put(text, "\n");
-}
-
-/* The registers of the report are those of the recorder, which AddressSanitizer has for its own functions too. */
-static void note(const struct told *told, uintptr_t frame)
-{
-    report = (struct report){.description = class_of(told), .instruction = told->caller, .frame = frame,
-                             .stack = frame - sizeof frame, .address = told->address};
-    report.is_access = told->finding == FINDING_NONE && told->code != CODE_FREE;
-    report.is_store = told->code == CODE_STORE;
-    report.size = report.is_access ? told->size : 0;
-}
-
 /* The lock comes before the place: a report that is dropped leaves its place to the next one there. */
 static void tell(const struct told *told, uintptr_t frame)
 {
@@ -184,11 +57,11 @@ static void tell(const struct told *told, uintptr_t frame)
     if (!lock_try(&telling))
         return;
     if (note_place(told->caller)) {
-        note(told, frame);
+        report_make(&report, told, frame);
         atomic_store(&now, &report);
         struct text text = text_in(report_text, sizeof report_text);
         if (tell_text != NULL)
-            put_report(&text, told);
+            report_put(&text, &report, told);
         if (on_error != NULL)
             on_error();
         if (tell_text != NULL)
@@ -296,7 +169,7 @@ static void print_stack(uintptr_t caller)
     char room[1 << 14];
     struct text text = text_in(room, sizeof room);
     text_put_frame(&text, 0, CALLER(), "__sanitizer_print_stack_trace");
-    text_put_stack(&text, call_site_of(caller), 1);
+    text_put_stack(&text, call_site_of(caller), 1, NULL);
     write_text(room);
 }
 
@@ -304,7 +177,7 @@ static void describe(uintptr_t address)
 {
     char room[1 << 14];
     struct text text = text_in(room, sizeof room);
-    text_put_description(&text, address);
+    text_put_description(&text, &(struct place){address, address, 1});
     write_text(room);
 }
 

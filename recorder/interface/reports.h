@@ -16,15 +16,8 @@
 #include <stddef.h>
 #include <stdint.h>
 
+#include "report/wording.h"
 #include "stream/telling.h"
-
-/* What may be asked for. */
-struct report {
-    const char *description; /* the class */
-    uintptr_t instruction, frame, stack, address;
-    size_t size;
-    bool is_store, is_access;
-};
 
 /* Shared objects find these in the program (hooks.h). */
 struct reports {

@@ -33,4 +33,11 @@ static inline const char *family_name(enum family family)
     return family < FAMILY_ANY ? names[family] : 0;
 }
 
+/* And the one that frees it. */
+static inline const char *family_free_name(enum family family)
+{
+    static const char *const names[] = {"free", "operator delete(void*)", "operator delete[](void*)"};
+    return names[family < FAMILY_ANY ? family : FAMILY_MALLOC];
+}
+
 #endif

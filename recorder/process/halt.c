@@ -82,14 +82,6 @@ static int ask_for_words(int *patience_ms)
     return ask_begin(recorder_hub(), ASK_REPORT, true, patience_ms);
 }
 
-/* Prints the report. The process does it by itself, since perhaps nobody else will: under a fuzzer there is no
-   asancol-report. */
-static void say_what(enum code code, unsigned width, uint64_t address, uintptr_t caller, const struct access *whole)
-{
-    struct access alone = access_of(code, address, width, caller, NULL);
-    halt_report(whole != NULL ? whole : &alone, width, address);
-}
-
 /* The thread that ends the process, after the number of that process; 0: none. And whether it waits for its words. */
 static _Atomic uint64_t halting;
 static _Atomic bool is_waiting;
@@ -169,12 +161,11 @@ void halt_at(enum code code, unsigned width, uint64_t address, uintptr_t caller,
     int patience_ms, words = is_left ? -ENOENT : ask_for_words(&patience_ms);
     side_note_halted(is_left ? HALTED_UNSAID : words >= 0 ? HALTED_AND_ASKS : HALTED_AND_SAID);
     recorder_finish(FINISH_CLOSED);
+    const struct told told = record_told(code, width, address, caller, whole);
     if (!side_is_at_exit() || (!is_left && !print_words(words, patience_ms)))
-        say_what(code, width, address, caller, whole);
-    if (is_telling() && code == CODE_FREE)
-        above.tell(&(struct told){.code = code, .caller = caller, .address = address, .call = whole->call});
-    else if (is_telling())
-        record_tell(code, width, address, caller, whole);
+        halt_report(&told);
+    if (is_telling())
+        above.tell(&told);
     halt_is_first_crash();
     halt_call_back();
     end_process();

@@ -6,12 +6,11 @@
 #define ASANCOL_HALT_REPORT_H
 
 #include <stdbool.h>
-#include <stdint.h>
 
-#include "stream/access.h"
+#include "stream/telling.h"
 
 /* Prints it on descriptor 2, whatever is there. By one thread, once. */
-void halt_report(const struct access *access, unsigned width, uint64_t address);
+void halt_report(const struct told *told);
 /* Prints the words of its run in the same place, which come on a connection, and closes that; below zero there is none.
    False: no words came in this time. */
 bool halt_report_of_run(int connection, int patience_ms);

@@ -8,6 +8,7 @@
 
 #include "base/tables.h"
 #include "environment/settings.h"
+#include "process/process.h"
 #include "shadow/globals.h"
 #include "shadow/shadow.h"
 #include "stream/state.h"
@@ -54,7 +55,8 @@ static _Atomic bool is_over;
 
 static int wanted(void)
 {
-    int level = is_on() ? plan.settings->init_order : 0;
+    bool is_wanted = is_on() || atomic_load(&halt_is_on);
+    int level = is_wanted ? recorder_settings()->init_order : 0;
     return level == STRICT && is_over ? 0 : level;
 }
 

@@ -1,9 +1,10 @@
 /* The globals of the program and of its shared objects, as the compilers register them.
 
    Called: globals_note by interface/odr.c, for the constructors and destructors of modules, and globals_each by that
-   and by process/init_order.c, in the thread that runs these. globals_find by stream/near.c and interface/, the
-   other two by stream/faults.c: in any thread, also in a handler. No lock: the tables' places are atomic, and their
-   bytes, which may be gone, are read by memory_read. So results are copies. */
+   and by process/init_order.c, in the thread that runs these. globals_find by stream/near.c, interface/pairs.c and
+   report/describing.c, globals_may_have by that and by stream/faults.c, which has globals_generation too: in any
+   thread, also in a handler. No lock: the tables' places are atomic, and their bytes, which may be gone, are read by
+   memory_read. So results are copies. */
 #ifndef ASANCOL_GLOBALS_H
 #define ASANCOL_GLOBALS_H
 

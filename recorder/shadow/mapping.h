@@ -5,7 +5,7 @@
    by start/resolvers.c before that, shadow_try_to_map by process/preload_choice.c: in the thread of that call. There is
    no second one yet, or the loader's lock is held, as when a shared object maps while it is relocated. shadow_switch
    and shadow_forked by process/process.c with the allocator's lock, when a recording begins. is_in_guard by
-   process/signals.c, in a handler, and interface/describing.c; is_in_own_file by stacks/ and process/given.c, in any
+   process/signals.c, in a handler, and report/describing.c; is_in_own_file by stacks/ and process/given.c, in any
    thread, also in a handler. No lock: these two read constants. */
 #ifndef ASANCOL_MAPPING_H
 #define ASANCOL_MAPPING_H

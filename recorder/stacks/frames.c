@@ -132,20 +132,42 @@ bool frame_around(uint64_t address, struct frame *frame)
     return true;
 }
 
-bool frame_nearest(const struct frame *frame, uint64_t address, struct frame_variable *found)
+uint64_t frame_each_variable(const struct frame *frame, void visit(const struct frame_variable *variable, void *with),
+                             void *with)
 {
     struct text text = {.next = frame->description};
-    uint64_t count = take_number(&text), least = UINT64_MAX;
-    for (uint64_t i = 0; i < count && i < MAX_VARIABLES && peek(&text) != 0; i++) {
+    uint64_t count = take_number(&text), i = 0;
+    for (; i < count && i < MAX_VARIABLES && peek(&text) != 0; i++) {
         struct frame_variable variable = take_variable(&text, frame->start);
-        uint64_t far = distance_of(address, &variable);
-        /* Of two that are as near it is the one before the address. */
-        if (far < least || (far == least && variable.start < address)) {
-            least = far;
-            *found = variable;
-        }
+        if (visit != NULL)
+            visit(&variable, with);
     }
-    return least != UINT64_MAX;
+    return i;
+}
+
+/* The nearest one so far. */
+struct nearest_variable {
+    uint64_t address, least;
+    struct frame_variable *found;
+};
+
+/* Of two that are as near it is the one before the address. */
+static void take_nearer(const struct frame_variable *variable, void *with)
+{
+    struct nearest_variable *nearest = with;
+    uint64_t far = distance_of(nearest->address, variable);
+    if (far < nearest->least || (far == nearest->least && variable->start < nearest->address)) {
+        nearest->least = far;
+        *nearest->found = *variable;
+    }
+}
+
+bool frame_nearest(const struct frame *frame, uint64_t address, struct frame_variable *found)
+{
+    *found = (struct frame_variable){0};
+    struct nearest_variable nearest = {address, UINT64_MAX, found};
+    frame_each_variable(frame, take_nearer, &nearest);
+    return nearest.least != UINT64_MAX;
 }
 
 void frame_each_part(const struct frame *frame, size_t most, void visit(const char *text, size_t length, void *with),

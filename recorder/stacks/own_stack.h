@@ -1,7 +1,7 @@
 /* Where the thread's own stack lies.
 
    Called: stack_start by start/start.c, in the first thread; page_above by that, and by process/threads.c, which
-   writes own_stack of another thread, as that begins. The rest by unwinding.c, process/, interface/ and
+   writes own_stack of another thread, as that begins. The rest by unwinding.c, process/, interface/, report/ and
    stream/own_place.c, in the thread itself, also in a handler; stack_has_grown by is_on_own_stack alone, and
    stack_note_rights by walks.c. No lock: own_stack is thread-local;
    walks.c and fake_stack.c read it too. leaks/roots.c reads that of other threads, which stand still. */

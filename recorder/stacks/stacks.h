@@ -20,21 +20,20 @@ struct call_sites {
 };
 
 /* The call site from which we came to `caller`, with the calls that led there (unwinding.h). (stream/, interface/,
-   process/) */
+   process/, report/) */
 call_site call_site_of(uintptr_t caller);
 /* The same, if between here and that call lies code without frame pointers: from a frame beyond that, or 0. (heap/,
    for each malloc and free) */
 call_site call_site_from(uintptr_t frame, uintptr_t caller);
 /* The call site that stands for an instruction at which a signal has come. (process/signals.c, in a handler) */
 call_site call_site_at(const struct registers *registers);
-/* The address after the innermost call. (stream/, heap/families.c, interface/, leaks/roots.c, process/) */
+/* The address after the innermost call. (stream/, heap/families.c, leaks/roots.c, process/, report/) */
 uintptr_t call_site_address(call_site of);
-/* The number of the thread that made it (thread_notes.h). (stream/, interface/, process/halt_report.c) */
+/* The number of the thread that made it (thread_notes.h). (stream/, report/describing.c) */
 unsigned call_site_thread(call_site of);
 /* The same call site and stack, of whichever thread. (leaks/lost.c) */
 call_site call_site_of_any_thread(call_site of);
-/* Its frames, the innermost first, and how many there are; 0: it has no stack. (stream/lists.c, interface/,
-   process/halt_report.c) */
+/* Its frames, the innermost first, and how many there are; 0: it has no stack. (stream/lists.c, report/code.c) */
 unsigned call_site_frames(call_site of, uint64_t frames[MAX_FRAMES]);
 
 /* Its number in the list of this number, or 0: each stack has room for one, which the next list takes.

@@ -203,6 +203,7 @@ const struct above above = {
     .state_free = book_state_free,
     .find_difference = heap_find_difference,
     .find_nearest = arena_find_nearest,
+    .shade_of = heap_shade_of,
     .start = start_if_ready,
     .say_child = recorder_say_child,
     .list_unchecked = unchecked_list,

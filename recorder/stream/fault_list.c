@@ -8,6 +8,8 @@
 
 #include "base/system.h"
 #include "base/tables.h"
+#include "shadow/shadow.h"
+#include "stream/state.h"
 #include "stream/thread_list.h"
 
 /* Those that are known: the upper bits of a hash, and the number in the lower ones. */
@@ -58,6 +60,17 @@ struct side_fault *fault_list_at(const struct list *list, uint32_t number)
     return (struct side_fault *)(list_bytes(list) + SIDE_FAULTS_AT) + (number - 1);
 }
 
+/* The shadow of the allocator's memory says of all that is no block's, and of freed blocks, that it is poison: here it
+   says which it is. */
+static void name_shades(struct side_fault *fault)
+{
+    for (uint64_t i = 0; fault->shadow_start != 0 && i < SIDE_SHADOW; i++) {
+        uint64_t granule = fault->shadow_start + i * GRANULE;
+        if (fault->shadow[i] == SHADE_USER && is_in_arena(granule))
+            fault->shadow[i] = above.shade_of(granule, fault->shadow[i]);
+    }
+}
+
 /* Adds an entry to the list, and fills it. Its threads get their numbers there. Answers its number, or 0. */
 static uint32_t add_fault(struct list *list, const struct side_fault *fault)
 {
@@ -71,6 +84,7 @@ static uint32_t add_fault(struct list *list, const struct side_fault *fault)
         return 0;
     struct side_fault *entry = fault_list_at(list, number);
     *entry = *fault;
+    name_shades(entry);
     entry->thread = list_put_thread(list, fault->thread);
     entry->allocated_thread = list_put_thread(list, fault->allocated_thread);
     entry->freed_thread = list_put_thread(list, fault->freed_thread);

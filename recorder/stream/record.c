@@ -9,15 +9,22 @@
 #include "stream/side.h"
 #include "stream/state.h"
 
+struct told record_told(enum code code, unsigned width, uint64_t address, uintptr_t caller, const struct access *whole)
+{
+    struct told told = {.code = code, .caller = caller, .address = address, .size = width};
+    if (whole == NULL)
+        return told;
+    told.size = whole->size;
+    told.call = whole->call;
+    if (code != CODE_FREE)
+        told.address = whole->call != NULL ? shadow_first_bad(address, width) : whole->start;
+    return told;
+}
+
 __attribute__((noinline, cold)) void record_tell(enum code code, unsigned width, uint64_t address, uintptr_t caller,
                                                  const struct access *whole)
 {
-    struct told told = {.code = code, .caller = caller, .address = address, .size = width};
-    if (whole != NULL) {
-        told.size = whole->size;
-        told.call = whole->call;
-        told.address = whole->call != NULL ? shadow_first_bad(address, width) : whole->start;
-    }
+    const struct told told = record_told(code, width, address, caller, whole);
     above.tell(&told);
 }
 

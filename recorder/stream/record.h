@@ -1,7 +1,7 @@
 /* The recording of accesses, in code that is inlined where they are, and regions. writing.h says how.
 
    Called: by interface/hooks.h and hooks.def, for the accesses of compiled code and of library calls; record_regions
-   also by heap/allocating.c, record_piece_of and record_tell by process/halt.c: in any thread, also in a handler.
+   also by heap/allocating.c, record_piece_of and record_told by process/halt.c: in any thread, also in a handler.
    The caller has no lock. None is taken, unless something is unusual: then places.h and watched.h take the
    allocator's and the stream's. */
 #ifndef ASANCOL_RECORD_H
@@ -39,6 +39,8 @@ static inline void halt_if_bad(enum code code, unsigned width, uint64_t address,
 /* Notes that an access is not recorded for its address, if memory is there after all. */
 void record_note_beyond(uint64_t address) OWN_NAME(record_note_beyond);
 
+/* What a report is made of: of a bad piece of an access, or of a free. */
+struct told record_told(enum code code, unsigned width, uint64_t address, uintptr_t caller, const struct access *whole);
 /* Tells the program of a bad piece of an access. */
 void record_tell(enum code code, unsigned width, uint64_t address, uintptr_t caller, const struct access *whole)
     OWN_NAME(record_tell);

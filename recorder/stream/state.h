@@ -157,6 +157,8 @@ struct above {
     uint64_t (*unchecked_state)(void);
     /* The block nearest to an address (heap/arena.h). */
     bool (*find_nearest)(uintptr_t address, struct nearest *found);
+    /* A shadow byte of a granule, without the allocator's poison (heap/heap.h). */
+    unsigned char (*shade_of)(uint64_t granule, unsigned char shade);
     /* Whether an address in a block is in this frame or above it, on the same stack. */
     bool (*has_frame)(uintptr_t frame, uintptr_t address);
     /* Whether it is on the thread's own stack, and on no other that lies in an array there. */

@@ -48,7 +48,7 @@ LEGEND = shadow_rows.LEGEND.replace("06 07\n", "06 07 \n").replace("bb\n", "bb\n
 ALIGNMENTS_SAID = re.compile(r"(?: of (?P<size>\d+) bytes?)? with (?:alignment (?P<said>\d+)|no alignment), and .* "
                              r"with (?:alignment (?P<made>\d+)|no alignment) ")
 
-# Where the modules of a process lay, by their paths.
+# How far the modules of a process lay from where they were linked for, by their paths.
 Bases = Dict[str, int]
 
 
@@ -143,12 +143,9 @@ class AsanText(Text):
         yield ""
 
     def asan_frame(self, frame: Frame, bases: Bases) -> str:
-        function = f" in {printable(frame.function)}" if frame.function else ""
-        if frame.file:
-            where = printable(shown_path(place_text(frame), self.root))
-        else:
-            where = module_of(frame) if function or not frame.module else f" {module_of(frame)}"
-        return f"0x{address_of(frame, bases):x}{function} {where}".rstrip()
+        function = f"in {printable(frame.function)}" if frame.function else ""
+        where = printable(shown_path(place_text(frame), self.root)) if frame.file else module_of(frame)
+        return f"0x{address_of(frame, bases):x} {function} {where}"
 
     @staticmethod
     def pc(stack: Stack, bases: Bases) -> int:
@@ -277,13 +274,13 @@ def allocating(function: str) -> str:
 
 
 def address_of(frame: Frame, bases: Bases) -> int:
-    """Returns where a frame was in memory; from where its module begins, if nobody knows where that was."""
+    """Returns where a frame was in memory; as its module was linked, if nobody knows where that lay."""
     return bases.get(frame.module, 0) + frame.offset
 
 
 def module_of(frame: Frame) -> str:
     if not frame.module:
-        return ""
+        return "(<unknown module>)"
     build = f" (BuildId: {frame.build})" if frame.build else ""
     return f"({printable(frame.module)}+0x{frame.offset:x}){build}"
 

@@ -37,7 +37,7 @@ class Frame(NamedTuple):
     """A call that was running. Unknown parts are empty or 0."""
 
     module: str = ""
-    offset: int = 0  # from where the module begins in memory; without a module the address
+    offset: int = 0  # from where the module was linked for; without a module the address
     build: str = ""  # the module's build id
     function: str = ""
     file: str = ""

@@ -131,7 +131,7 @@ class Gatherer:
                 self.symbols.look_up()
         found = self.take_findings(process, pid, side, segment) if side else 0
         if side is not None and (self.results.has_addresses or self.is_each_kept):
-            self.results.bases[self.run, process] = {it.path: it.base for it in side.maps}
+            self.results.bases[self.run, process] = side.bases
         if side is not None and side.is_good and not side.maps and (lines.groups or found):
             self.results.notes[NO_MODULES] = None
         if side is not None and side.ending == ENDING_SIGNAL:
@@ -210,11 +210,13 @@ class Gatherer:
             return CodeAddress(None, address, address)
         module = self.modules.find(mapping, side.started)
         in_file = address - mapping.low + mapping.offset
-        if has_names and module.elf is not None and not module.trouble:
-            linked = module.elf.address(in_file)
-            if linked not in module.names:
-                module.wanted[linked] = None
-        return CodeAddress(module, in_file, address - mapping.base)
+        if module.elf is None or module.trouble:
+            return CodeAddress(module, in_file, address - side.bases[mapping.path])
+        linked = module.elf.address(in_file)
+        if has_names and linked not in module.names:
+            module.wanted[linked] = None
+        side.bases[mapping.path] = address - linked
+        return CodeAddress(module, in_file, linked)
 
     def sight(self, finding: Finding, count: int, fault: Optional[Fault], places: Places, tally: Tally) -> Sighting:
         size = None if finding.access == "malloc" or finding.by_recorder else finding.size

@@ -145,7 +145,7 @@ class CodeAddress(NamedTuple):
 
     module: Optional[Module]
     in_file: int  # the offset in the module's file, or the address
-    offset: int  # from where the module begins in memory, or the address
+    offset: int  # from where the module was linked for, or the address
 
 
 class Modules:

@@ -190,6 +190,8 @@ class Side:
         self.stacks: Dict[int, Calls] = {}
         self.maps = self.read_maps() if self.is_good else []
         self.lows = [mapping.low for mapping in self.maps]
+        # How far each module lies from where it was linked for: from its first part on, until its file says more.
+        self.bases = {mapping.path: mapping.base for mapping in self.maps}
         self.shared = ranges_shared(self.maps)
         self.part: Tuple[int, ...] = ()
         self.part_number = -1
