@@ -16,6 +16,7 @@
 #include "common/distance.h"
 #include "common/format.h"
 #include "common/path.h"
+#include "names.h"
 #include "say.h"
 
 /* What became of a word. */
@@ -125,28 +126,6 @@ static enum done take_symbolizer(const char *path)
     return TAKEN;
 }
 
-/* Makes the folders that are missing above a file, as AddressSanitizer does. Whether a file can be made there; errno
-   says why not. */
-static bool make_folders_above(const char *path)
-{
-    char *above = must(strdup(path)), *last = strrchr(above, '/');
-    if (last == NULL) {
-        free(above);
-        return access(".", W_OK | X_OK) == 0;
-    }
-    for (char *slash = strchr(above + 1, '/'); slash != NULL; slash = strchr(slash + 1, '/')) {
-        *slash = 0;
-        mkdir(above, 0755); /* it may be there */
-        *slash = '/';
-    }
-    last[last == above] = 0;
-    bool is_good = access(above, W_OK | X_OK) == 0;
-    int why = errno;
-    free(above);
-    errno = why;
-    return is_good;
-}
-
 static int log_error; /* why no file of the last log_path can be made */
 
 static enum done take_log(struct options *options, const char *path)
@@ -155,7 +134,7 @@ static enum done take_log(struct options *options, const char *path)
         return HARMLESS;
     if (strcmp(path, "stdout") == 0)
         return give(options, "log-file", "/dev/stdout");
-    if (!make_folders_above(path)) {
+    if (!names_make_folders(path)) {
         log_error = errno;
         return WITHOUT_EFFECT;
     }

@@ -7,11 +7,32 @@
 #include <stdio.h>
 #include <stdlib.h>
 #include <string.h>
+#include <sys/stat.h>
 #include <unistd.h>
 
 #include "common/array.h"
 #include "common/path.h"
 #include "say.h"
+
+bool names_make_folders(const char *path)
+{
+    char *above = must(strdup(path)), *last = strrchr(above, '/');
+    if (last == NULL) {
+        free(above);
+        return access(".", W_OK | X_OK) == 0;
+    }
+    for (char *slash = strchr(above + 1, '/'); slash != NULL; slash = strchr(slash + 1, '/')) {
+        *slash = 0;
+        mkdir(above, 0777); /* it may be there */
+        *slash = '/';
+    }
+    last[last == above] = 0;
+    bool is_good = access(above, W_OK | X_OK) == 0;
+    int why = errno;
+    free(above);
+    errno = why;
+    return is_good;
+}
 
 int name_descriptor(const char *name)
 {

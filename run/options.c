@@ -165,26 +165,15 @@ static double seconds_of(const struct option *option, const char *text)
     exit(OWN_FAILURE);
 }
 
-/* Whether a file can be made in the folder of a name. */
-static bool has_good_folder(const char *path)
-{
-    char folder[PATH_MAX];
-    const char *slash = strrchr(path, '/');
-    if (slash == NULL)
-        return false;
-    snprintf(folder, sizeof folder, "%.*s", slash == path ? 1 : (int)(slash - path), path);
-    return access(folder, W_OK | X_OK) == 0;
-}
-
 static void demand_beginning(const char *dashed, const char *path)
 {
-    if (has_good_folder(path))
+    if (names_make_folders(path))
         return;
     say("asancol-run: %s: %s: %s", dashed, path, strerror(errno));
     exit(OWN_FAILURE);
 }
 
-/* Whether a file can be made, or is there and can be written. */
+/* Fails if a file neither can be made nor is there and can be written. Missing folders are made. */
 static void demand_output(const char *dashed, const char *path)
 {
     struct stat seen;
@@ -193,7 +182,7 @@ static void demand_output(const char *dashed, const char *path)
             errno = EISDIR;
         else if (access(path, W_OK) == 0)
             return;
-    } else if (errno == ENOENT && has_good_folder(path)) {
+    } else if (errno == ENOENT && names_make_folders(path)) {
         return;
     }
     say("asancol-run: %s: %s: %s", dashed, path, strerror(errno));
@@ -277,11 +266,16 @@ static bool is_passed(const struct options *options, const char *dashed, const c
     return false;
 }
 
-/* A file or a folder that the report is given. */
-static void pass_name(struct options *options, enum action action, const char *dashed, const char *value)
+static void demand_file(const char *dashed, const char *value)
 {
     if (strcmp(value, "-") == 0)
         fail(OWN_FAILURE, dashed, "- is not a file: standard input and output are the command's");
+}
+
+/* A file or a folder that the report is given. */
+static void pass_name(struct options *options, enum action action, const char *dashed, const char *value)
+{
+    demand_file(dashed, value);
     const char *name = name_expanded(dashed, value);
     if (action == PASS_OUTPUT && name_descriptor(name) >= 0) {
         pass_descriptor(options, dashed, name);
@@ -380,10 +374,15 @@ static void take_value(struct options *options, const struct option *option, con
         *(double *)field = seconds_of(option, value);
         break;
     case SET_OUTPUT:
+        demand_file(dashed, value);
+        *(const char **)field = name_expanded(dashed, value);
+        if (name_descriptor(*(const char **)field) < 0) {
+            demand_output(dashed, *(const char **)field);
+            demand_alone(dashed, *(const char **)field);
+        }
+        break;
     case SET_FOLDER:
         *(const char **)field = name_expanded(dashed, value);
-        if (option->action == SET_OUTPUT && name_descriptor(*(const char **)field) < 0)
-            demand_alone(dashed, *(const char **)field);
         break;
     case SET_INPUT:
         *(const char **)field = value;

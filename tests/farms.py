@@ -292,7 +292,8 @@ def expect_merged(out: str, page: str) -> None:
         line = line_of_bug(file, words)
         expect(re.search(rf"#0 0x\w+ in \w+ \S*{file}:{line}:", out) is not None, True, f"{file}:{line}")
         expect_in(page, f"{file}:{line}")
-    summary = r"^asancol: 2 reports at 2 places; 5 processes in 5 runs, \d+ events; 1 INCOMPLETE$"
+    unchecked = r"not checked: 1 program: \S*vendor \(not built with asancol-cc\)"
+    summary = rf"^asancol: 2 reports at 2 places; 5 processes in 5 runs, \d+ events; 1 INCOMPLETE; {unchecked}$"
     expect(len(re.findall(summary, out, re.M)), 1, "summaries")
 
 

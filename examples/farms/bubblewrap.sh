@@ -1,6 +1,6 @@
 # bubblewrap, with nothing shared but the folder of the socket.
 make -f simple.mk
-mkdir -p results sockets
+mkdir -p sockets
 for test in split join child wait vendor; do
     TMPDIR=$PWD/sockets asancol-run -q --timeout 2 --json results/$test.jsonl -- \
         bwrap --ro-bind / / --dev /dev --proc /proc --tmpfs /tmp --unshare-all --die-with-parent \

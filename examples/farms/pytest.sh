@@ -1,5 +1,4 @@
 # pytest: each test starts its program under asancol-run.
 make -f simple.mk
-mkdir -p results
 pytest --junitxml pytest.xml test_programs.py
 asancol-report --html report.html results/*.jsonl

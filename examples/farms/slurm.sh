@@ -1,5 +1,4 @@
 # Slurm: one index of an array job is one test.
 make -f simple.mk
-mkdir -p results
 sbatch --wait --array=0-4 slurm-job.sh
 asancol-report --html report.html results/*.jsonl

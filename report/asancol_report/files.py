@@ -41,9 +41,10 @@ def is_replaceable(path: str) -> bool:
 
 
 def write_beside(path: str, fill: Callable[[TextIO], None]) -> None:
-    """Writes a file under another name, and gives it its own once it is whole."""
+    """Writes a file under another name, and gives it its own once it is whole. Missing folders are created."""
     target = os.path.realpath(path)
     folder, name = os.path.split(target)
+    os.makedirs(folder, exist_ok=True)
     beside = os.path.join(folder, f".{name[:200]}.{os.getpid()}")
     descriptor = os.open(beside, os.O_WRONLY | os.O_CREAT | os.O_EXCL | os.O_CLOEXEC, 0o666)
     try:

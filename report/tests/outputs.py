@@ -345,8 +345,11 @@ def outputs_are_whole(folder: str) -> None:
         ran = report(folder, "a.jsonl", f"--{name}", "/dev/full")
         expect((ran.status, ran.out), (4, first.out), name)
         expect(ran.err, "asancol-report: /dev/full: No space left on device\n", name)
-        ran = report(folder, "a.jsonl", f"--{name}", "missing/file")
-        expect((ran.status, ran.err), (4, "asancol-report: missing/file: No such file or directory\n"), name)
+        ran = report(folder, "a.jsonl", f"--{name}", "/proc/none/file")
+        expect((ran.status, ran.err), (4, "asancol-report: /proc/none/file: No such file or directory\n"), name)
+        ran = report(folder, "a.jsonl", f"--{name}", "missing/folders/file")
+        expect((ran.status, ran.err, os.listdir(f"{folder}/missing/folders")), (first.status, "", ["file"]), name)
+        shutil.rmtree(f"{folder}/missing")
     before = set(os.listdir(folder))
     with open(f"{folder}/real", "w", encoding="utf-8") as file:
         file.write("old")

@@ -203,8 +203,8 @@ def trace_has_failures(folder: str) -> None:
     write_trace(folder, "a.trace", FREED + END)
     for argv, settings, text in (
         (["no.trace"], NO_SETTINGS, "no.trace: No such file or directory"),
-        (["a.trace"], {"ASANCOL": "/nonexistent/asancol"},
-         "/nonexistent/asancol: the checker is missing"),
+        (["a.trace"], {"ASANCOL": "/proc/none/asancol"},
+         "/proc/none/asancol: the checker is missing"),
         (["a.trace"], {"ASANCOL": "/bin/false"}, "a.trace: its checker printed no verdict, and ended with status 1"),
     ):
         ran = report(folder, "--trace", *argv, **settings)

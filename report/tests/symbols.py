@@ -71,7 +71,7 @@ def symbolizer_fails(folder: str) -> None:
     for name in ("cat", "readlink"):
         os.symlink(shutil.which(name) or name, f"{folder}/{name}")
     for tool, text in (
-        ("/nonexistent/tool", "/nonexistent/tool, which ASANCOL_SYMBOLIZER names, was not found: places have no lines"),
+        ("/proc/none/tool", "/proc/none/tool, which ASANCOL_SYMBOLIZER names, was not found: places have no lines"),
         ("./llvm-symbolizer-silent", "gives no lines"),
         ("/bin/cat", "gives no lines"),
         ("", "asancol: neither llvm-symbolizer nor addr2line was found: places have no lines"),

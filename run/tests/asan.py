@@ -250,10 +250,10 @@ def check_halts(suite: Suite, folder: str) -> None:
     expect_in(ran.err, ": 3 times, 3 processes\n", "asancol: 3 reports at 1 place; 3 processes, ")
     for argv in ([result], ["--trace", *glob.glob(f"{folder}/kept/*.trace")]):
         expect_in(suite.run_argv([REPORT, *argv]).out, PAST, " (3 times, 3 processes)\n", "in store_past ")
-    ran = suite.run("--", *past.split(), ASAN_OPTIONS="halt_on_error=1", ASANCOL_REPORT="/nonexistent/report")
+    ran = suite.run("--", *past.split(), ASAN_OPTIONS="halt_on_error=1", ASANCOL_REPORT="/proc/none/report")
     expect(texts(ran), (1, 1), "asancol-report is not there")
     ran = suite.run("--", "sh", "-c", f"{past} 2> {folder}/e", ASAN_OPTIONS="halt_on_error=1",
-                    ASANCOL_REPORT="/nonexistent/report")
+                    ASANCOL_REPORT="/proc/none/report")
     expect_not_in(read(f"{folder}/e"), "store_past")
     expect(read(f"{folder}/e").count(HALTED), 1, "the process's own text")
     write_text(f"{folder}/known", "at:heap-buffer-overflow:store_past\n")

@@ -129,10 +129,10 @@ class Row(NamedTuple):
 
 ROWS = [
     Row("one report, with symbols", one_report, ["--trace"], 0.15, 100),
-    Row("one report, without", one_report, ["--trace"], 0.15, 100, "/nonexistent"),
+    Row("one report, without", one_report, ["--trace"], 0.15, 100, "/proc/none"),
     Row("100,000 lines of one place", one_place, ["--trace"], 1, 100),
     Row("2,000 places, with symbols", many_places, ["--trace"], 1, 100),
-    Row("2,000 places, without", many_places, ["--trace"], 1, 100, "/nonexistent"),
+    Row("2,000 places, without", many_places, ["--trace"], 1, 100, "/proc/none"),
     Row("a million JSON lines", results, [], 30, 500),
     Row("a million JSON lines, to a file", results, ["--json", "/dev/null"], 30, 500),
     Row("100,000 results of 1,000 jobs", a_farm, [], 10, 500),

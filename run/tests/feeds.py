@@ -90,12 +90,12 @@ def check_failing_report(suite: Suite, folder: str, way: str, texts: List[str]) 
 
 
 def check_missing_report(suite: Suite, folder: str) -> None:
-    for report in ("/nonexistent/report", "/etc/passwd"):
+    for report in ("/proc/none/report", "/etc/passwd"):
         ran = suite.run("--", suite.program, "past", ASANCOL_REPORT=report)
         expect_ran(ran, 99, f"asancol-run: {report}: ", "p0 #2 store 1 at ")
         expect_ran(suite.run("--", suite.program, "sound", ASANCOL_REPORT=report), 0)
     line = f"i=0; while [ $i -lt 30 ]; do {suite.program} past; i=$((i+1)); done"
-    ran = suite.run("--", "sh", "-c", line, ASANCOL_REPORT="/nonexistent/report")
+    ran = suite.run("--", "sh", "-c", line, ASANCOL_REPORT="/proc/none/report")
     expect_ran(ran, 99, "and 10 more processes with reports")
     expect(ran.err.count("p0 #"), 20, "processes")
 

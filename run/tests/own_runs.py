@@ -46,7 +46,7 @@ def check_without(suite: Suite, folder: str) -> None:
     def refused(ran: Ran, *why: str) -> None:
         expect_ran(ran, 98, "asancol: not started: ", *why)
         expect(ran.out, "", "it ends before main")
-    missing = "/nonexistent/asancol-run"
+    missing = "/proc/none/asancol-run"
     refused(run_alone(suite, f"{folder}/m", ASANCOL_RUN=missing),
             f"asancol-run can't be executed at {missing}: install it, set ASANCOL_RUN to its path, or")
     refused(run_alone(suite, f"{folder}/m", ASANCOL_RUN=f"{folder}/"), f"asancol-run can't be executed at {folder}/")
@@ -448,7 +448,7 @@ def check_names(suite: Suite, folder: str) -> None:
     write_text(f"{folder}/names.py", NAMES)
     call([CC, "-g", "-w", "n.c", "-o", "n"], cwd=folder, check=True)
     for is_reaper in ("0", "1"):
-        for how in ("ls", "-sh", "/nonexistent/p", "moved", "linker", "memory", "removed"):
+        for how in ("ls", "-sh", "/proc/none/p", "moved", "linker", "memory", "removed"):
             program = f"{folder}/n"
             if how == "removed":
                 program = shutil.copy(program, f"{folder}/removed")

@@ -15,7 +15,7 @@ from testing.programs import call
 def check_folder(suite: Suite, folder: str, kind: str) -> None:
     """Each TMPDIR will do."""
     places = {
-        "missing": "/nonexistent/place",
+        "missing": "/proc/none/place",
         "long": f"{folder}/{'x' * 120}",
         "read-only": f"{folder}/read-only",
         "file": f"{folder}/file",
@@ -174,7 +174,7 @@ def check_nested_lost(suite: Suite, folder: str) -> None:
     expect_ran(suite.run(*nested(suite, line)), 98, "INCOMPLETE: 1 run inside this one left no result")
     ran = suite.run("--json", f"{folder}/x", *nested(suite, line), ASANCOL_REPORT=REPORT)
     expect_ran(ran, 98, "INCOMPLETE: 1 run inside this one left no result")
-    expect_ran(suite.run(*nested(suite, "RUN -q -- /nonexistent; PROGRAM sound")), 0, "all complete")
+    expect_ran(suite.run(*nested(suite, "RUN -q -- /proc/none; PROGRAM sound")), 0, "all complete")
 
 
 def check_nested_without_folder(suite: Suite, folder: str) -> None:

@@ -151,11 +151,11 @@ def check_live(suite: Suite, folder: str) -> None:
 
 def check_raw(suite: Suite, folder: str) -> None:
     """Without asancol-report the lines of each segment are printed."""
-    ran = suite.run("--", SEGMENTED, "1", "2b", "3b", "4e", ASANCOL_REPORT="/nonexistent/report")
+    ran = suite.run("--", SEGMENTED, "1", "2b", "3b", "4e", ASANCOL_REPORT="/proc/none/report")
     expect_ran(ran, 99, "segmented, segment 2:\np0 #12 store 1 at ", "segmented, segment 3:\np0 #12 ",
                "4 reports in 1 process; 1 process, 45 events; all complete")
     many = [f"{number}b" for number in range(1, 30)]
-    ran = suite.run("--", SEGMENTED, *many, "30e", ASANCOL_REPORT="/nonexistent/report")
+    ran = suite.run("--", SEGMENTED, *many, "30e", ASANCOL_REPORT="/proc/none/report")
     expect_ran(ran, 99, "\nand 18 more lines\n", absent=["processes"])
     # The twenty of which the checkers have ended first: side by side they end in any order.
     shown = re.findall(r", segment (\d+):\n", ran.err)

@@ -106,7 +106,7 @@ def soak(asancol: str, programs: int, workers: int, seed: int) -> int:
             file.write(SOURCE)
         call([CC, "-g", "-w", "p.c", "-o", "p"], cwd=built, check=True)
         # Without a report asancol-run prints the reports itself, which is quick.
-        settings = environment(ASANCOL=asancol, ASANCOL_RUN="", ASANCOL_REPORT="/nonexistent", TMPDIR=folder)
+        settings = environment(ASANCOL=asancol, ASANCOL_RUN="", ASANCOL_REPORT="/proc/none", TMPDIR=folder)
         with concurrent.futures.ThreadPoolExecutor(workers) as pool:
             starts = [draw(source) for _ in range(programs)]
             for end in pool.map(lambda it: run_one(f"{built}/p", it, settings), starts):

@@ -93,9 +93,9 @@ ROWS: Dict[str, List[Case]] = {
     "it was not built with `asancol-cc` or for AddressSanitizer": [Case(["PLAIN", "sound", "0"]),
                                                                    Case(["PLAIN", "bad", "7"])],
     "`ASANCOL_RUN=0`": [Case(BAD, {"ASANCOL_RUN": "0"})],
-    "it is missing; it cannot be executed": [Case(["/nonexistent/program"], options=["-q"]),
+    "it is missing; it cannot be executed": [Case(["/proc/none/program"], options=["-q"]),
                                              Case(["/etc/passwd"], options=["-q"])],
-    "no run can begin": [Case(BAD, {"ASANCOL": "/nonexistent/checker"}, ["-q"])],
+    "no run can begin": [Case(BAD, {"ASANCOL": "/proc/none/checker"}, ["-q"])],
 }
 
 

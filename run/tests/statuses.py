@@ -28,7 +28,7 @@ RUNS: Dict[str, Tuple[str, int, List[str]]] = {
     "death is complete": ("-v -- PROGRAM aborts", 0, ["complete: ended by SIGABRT"]),
     "exec": ("-- PROGRAM execs PROGRAM past", 99, []),
     "exec is complete": ("-- PROGRAM execs PROGRAM sound", 0, ["2 processes, 4 events; all complete"]),
-    "failed exec": ("-- PROGRAM execs /nonexistent", 127, ["1 process, 2 events; all complete"]),
+    "failed exec": ("-- PROGRAM execs /proc/none", 127, ["1 process, 2 events; all complete"]),
     "nothing": ("-- true", 98, ["NOTHING WAS RECORDED", "no reports; 0 processes, 0 events; INCOMPLETE"]),
     "nothing, and quiet": ("-q -- true", 98, ["NOTHING WAS RECORDED"]),
     "nothing-exitcode": ("--nothing-exitcode 77 -- true", 77, ["NOTHING WAS RECORDED"]),
@@ -189,7 +189,7 @@ REFUSED: Dict[str, Tuple[str, str]] = {
     "memory": ("--memory 1000 true", "'1000' is not a number (1048576 to 1099511627776)"),
     "quarantine": ("--quarantine 1099511627777 true", "is not a number (0 to 1099511627776)"),
     "color": ("--color blue true", "'blue' is not one of auto, always and never"),
-    "no suppressions": ("--suppressions /nonexistent true", "/nonexistent: No such file or directory"),
+    "no suppressions": ("--suppressions /proc/none true", "/proc/none: No such file or directory"),
     "a folder as baseline": ("--baseline /usr true", "/usr: Is a directory"),
     "address without a file": ("--source-url https://x/{line} true",
                                "'https://x/{line}' does not say which file: write {file} or {path} where its path"),
@@ -198,16 +198,17 @@ REFUSED: Dict[str, Tuple[str, str]] = {
     "address with another mark": ("--source-url x:{file}{lin} true", "a brace of no mark: the marks are {file}, "),
     "address beyond ASCII": ("--source-url x:{file}é true", "write its bytes as % and two hexadecimal digits"),
     "no root": ("--source-root /etc/passwd true", "/etc/passwd: Not a directory"),
-    "no folder for an output": ("--json /nonexistent/x true", "--json: /nonexistent/x: No such file or directory"),
+    "no folder for an output": ("--json /proc/none/x true", "--json: /proc/none/x: No such file or directory"),
     "output is a folder": ("--html /usr true", "/usr: Is a directory"),
     "output is standard output": ("--json - true", "--json: - is not a file"),
+    "log is standard output": ("--log-file - true", "--log-file: - is not a file"),
     "output is a closed descriptor": ("--json /dev/fd/99 true", "--json: /dev/fd/99: Bad file descriptor"),
     "log is a closed descriptor": ("--log-file /dev/fd/99 true", "/dev/fd/99: Bad file descriptor"),
-    "no folder for the log": ("--log-file /nonexistent/x true", "/nonexistent/x: No such file or directory"),
+    "no folder for the log": ("--log-file /proc/none/x true", "/proc/none/x: No such file or directory"),
     "one file for two outputs": ("--json x --sarif ./x true", "x is the file of --json too"),
     "one file for an output and the log": ("--log-file x --json x true", "x is the file of --log-file too"),
     "keep is a file": ("--keep /etc/passwd true", "/etc/passwd: Not a directory"),
-    "keep has no parent": ("--keep /nonexistent/x true", "/nonexistent/x: No such file or directory"),
+    "keep has no parent": ("--keep /proc/none/x true", "/proc/none/x: No such file or directory"),
     "mark": ("--log-file %x true", "after a % comes p, q{NAME} or another %"),
     "mark at the end": ("--log-file 5% true", "after a % comes p, q{NAME} or another %"),
     "mark without an end": ("--log-file %q{HOME true", "%q{ has no }"),
@@ -322,7 +323,7 @@ def tests(suite: Suite) -> None:
     for name, (line, text) in REFUSED.items():
         suite.test(f"refused: {name}", check_refused, line, text)
     suite.test("help", check_help)
-    for checker in ("/nonexistent/asancol", "/etc/passwd", "/usr", "no-such-program"):
+    for checker in ("/proc/none/asancol", "/etc/passwd", "/usr", "no-such-program"):
         suite.test(f"checker {checker}", check_missing_checker, checker)
     suite.test("checker that is another program", check_other_checker)
     suite.test("quarantine of the environment", check_quarantine_of_environment)
