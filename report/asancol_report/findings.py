@@ -19,6 +19,8 @@ HEAP, STACK, GLOBAL, DYNAMIC = "heap", "stack", "global", "dynamic"
 # A bad byte no further from a block than this is in its own redzone: of another one nobody knows which block was meant.
 REDZONE = 32
 FINGERPRINT_DIGITS = 16
+# The most processes that a tally names.
+MAX_NUMBERS = 1000
 # Of a block that the recorder has no notes on any more.
 FORGOTTEN = "freed long ago: its exact size and its stacks are no longer kept"
 # Who has judged a report, if it was not the checker.
@@ -132,6 +134,7 @@ class Tally(NamedTuple):
     number: int = 0  # and which of the findings of its recorder in that segment it is
     lost: Leaks = Leaks()  # of a leak: what all processes have lost there
     is_awaited: bool = False  # each process has halted there, which its parent has waited for
+    numbers: Tuple[int, ...] = ()  # of the first processes in their run, up to MAX_NUMBERS; none: the first one's
 
     @property
     def moment(self) -> Tuple[int, int, bool, int]:

@@ -12,7 +12,7 @@ from typing import Callable, cast, Dict, Hashable, List, NamedTuple, Optional, T
 from .by_recorder import definition, FORMS, lost_at
 from .class_names import class_of, INDIRECT_LEAK, LEAK
 from .crashes import STACK_OVERFLOW
-from .findings import (Block, DYNAMIC, Finding, Frame, GLOBAL, HEAP, Rows, STACK, Stack, Tally, Thread,
+from .findings import (Block, DYNAMIC, Finding, Frame, GLOBAL, HEAP, MAX_NUMBERS, Rows, STACK, Stack, Tally, Thread,
                        Threads, UNKNOWN_THREAD)
 from .leaks import at_one_place, Leaks, Sum, SUMMARY, YES
 from .modules import CodeAddress, Modules
@@ -245,7 +245,8 @@ class Gatherer:
             self.seen_in[id(finding)] = before | sighting.processes
             added = bits_of(sighting.processes & ~before)
             times = sighting.count or int(known is None)  # pieces alone are none, if they are pieces of a known access
-            first = sighting.first._replace(times=times, processes=added, lost=sighting.lost)
+            first = sighting.first._replace(times=times, processes=added, lost=sighting.lost,
+                                            numbers=numbers_of(sighting.processes))
             self.results.add(finding, self.run, first)
             if self.results.has_log or self.is_each_kept:
                 self.came.findings.append(finding_alone(sighting, self.run))
@@ -413,6 +414,16 @@ def time_of(first: Tally) -> Tuple[int, ...]:
 
 def bits_of(number: int) -> int:
     return bin(number).count("1")
+
+
+def numbers_of(processes: int) -> Tuple[int, ...]:
+    """Returns the first of the processes that have a bit."""
+    numbers: List[int] = []
+    while processes and len(numbers) < MAX_NUMBERS:
+        lowest = processes & -processes
+        numbers.append(lowest.bit_length() - 1)
+        processes ^= lowest
+    return tuple(numbers)
 
 
 def block_of(fault: Optional[Fault]) -> Optional[Block]:

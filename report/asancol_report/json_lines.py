@@ -10,8 +10,8 @@ from typing import Any, Callable, Dict, Iterable, Iterator, List, NamedTuple, Op
 from .class_names import LEAK
 from .crashes import Crash
 from .errors import Broken, reason
-from .findings import (Block, calls_to_leak, DYNAMIC, Finding, first_own, Frame, GLOBAL, HEAP, near_of, Place, Rows,
-                       STACK, Stack, Tally, Thread, Threads, UNKNOWN_THREAD)
+from .findings import (Block, calls_to_leak, DYNAMIC, Finding, first_own, Frame, GLOBAL, HEAP, MAX_NUMBERS, near_of,
+                       Place, Rows, STACK, Stack, Tally, Thread, Threads, UNKNOWN_THREAD)
 from .leaks import leak_text, Leaks
 from .reading import open_regular
 from .results import Process, Results, Run
@@ -113,6 +113,7 @@ def finding_line(tally: Tally, run: int, rest: str) -> str:
     segment += f'"after":{tally.after},' if tally.after else ""
     segment += f'"number":{tally.number},' if tally.number else ""
     segment += '"awaited":true,' if tally.is_awaited else ""
+    segment += f'"seen_in":{[*tally.numbers]},'.replace(" ", "") if len(tally.numbers) > 1 else ""
     return (f'{{"type":"finding","run":{run},"count":{tally.times},"processes":{tally.processes},'
             f'"process":{tally.process},"pid":{tally.pid},"event":{tally.event},{segment}{rest[1:]}')
 
@@ -412,11 +413,16 @@ def finding_of(entry: Entry) -> Finding:
     return finding
 
 
+def numbers_of(value: object) -> Tuple[int, ...]:
+    return tuple(map(number_of, value[:MAX_NUMBERS])) if isinstance(value, list) else ()
+
+
 def tally_of(entry: Entry) -> Tally:
     get = entry.get
     return Tally(number_of(get("count")), number_of(get("processes")), number_of(get("process")), number_of(get("pid")),
                  number_of(get("event")), number_of(get("segment")) or 1, number_of(get("after")),
-                 number_of(get("number")), lost_of(entry), get("awaited") is True)
+                 number_of(get("number")), lost_of(entry), get("awaited") is True,
+                 numbers_of(get("seen_in")) or (number_of(get("process")),))
 
 
 def lost_of(entry: Entry) -> Leaks:

@@ -1,5 +1,5 @@
-"""The report as JUnit XML: a test case for each run. It passes if no report and no crash counts, the command did not
-fail, and all was complete."""
+"""The report as JUnit XML: a test case for each run, and if that has processes of several commands, as a suite has, for
+each command. A test case passes if no report and no crash counts, the command did not fail, and all was complete."""
 
 from __future__ import annotations
 
@@ -7,7 +7,7 @@ import copy
 import io
 import os
 import re
-from typing import Dict, Iterable, Iterator, List, Optional, TextIO, Tuple
+from typing import Dict, Iterable, Iterator, List, NamedTuple, Optional, Set, TextIO, Tuple
 from xml.sax.saxutils import escape
 
 from .crashes import Crash
@@ -36,27 +36,49 @@ def element(name: str, kind: str, message: str, text: str) -> str:
     return f'<{name} type="{attribute(kind)}" message="{attribute(message)}">{text_of(text)}</{name}>'
 
 
-def part_of(finding: Finding, number: int) -> Finding:
-    """Returns what one run has of a finding."""
+class Case(NamedTuple):
+    """A test case."""
+
+    run: int
+    processes: List[Process]
+    is_run: bool  # it stands for the run as a whole
+
+
+def cases_of(number: int, run: Run) -> List[Case]:
+    """Returns the test cases of a run. The processes of one command are one: most are children by a fork."""
+    processes = [run.processes[it] for it in sorted(run.processes)]
+    commands: Dict[Tuple[str, ...], List[Process]] = {}
+    for process in processes:
+        commands.setdefault(process.command, []).append(process)
+    if len(commands) < 2:
+        return [Case(number, processes, True)]
+    return [Case(number, [], True), *(Case(number, those, False) for those in commands.values())]
+
+
+def part_of(finding: Finding, case: Case) -> Finding:
+    """Returns what a test case has of a finding."""
+    tally = finding.runs[case.run]
+    numbers = tally.numbers or (tally.process,)
+    first = next((it for it in case.processes if it.number in numbers), None)
     part = copy.copy(finding)
-    part.runs = {number: finding.runs[number]}
-    part.also = [part_of(other, number) for other in finding.also if number in other.runs]
-    part.later = [other for other in finding.later if number in other.runs]
+    part.runs = {case.run: tally if first is None else tally._replace(process=first.number, pid=first.pid)}
+    part.also = [part_of(other, case) for other in finding.also if case.run in other.runs]
+    part.later = [other for other in finding.later if case.run in other.runs]
     return part
 
 
-def failure(places: List[Finding], number: int, results: Results, root: str) -> str:
-    """Returns the element that has the reports and crashes of a run."""
-    processes = results.runs[number].processes
+def failure(places: List[Finding], case: Case, results: Results, root: str) -> str:
+    """Returns the element that has the reports and crashes of a test case."""
+    processes = results.runs[case.run].processes
     out = io.StringIO()
     text = Text(out, Colors(False), root, has_suppressions=False)
-    all_of_run = set(places)
-    for finding in places:
-        if not isinstance(finding, Crash) and finding.follows not in all_of_run:
-            text.write(text.finding(part_of(finding, number)))
-    crashed = [processes[n] for n in sorted(processes) if results.has_counted_crash(processes[n])]
-    text.write(text.crashes(results, crashed))
-    text.write(commands_of(processes.get(finding.runs[number].process) for finding in places))
+    all_of_case = set(places)
+    parts = [part_of(finding, case) for finding in places]
+    for finding, part in zip(places, parts):
+        if not isinstance(finding, Crash) and finding.follows not in all_of_case:
+            text.write(text.finding(part))
+    text.write(text.crashes(results, filter(results.has_counted_crash, case.processes)))
+    text.write(commands_of(processes.get(part.runs[case.run].process) for part in parts))
     named = [named_place(finding, root) for finding in places[:MAX_NAMED]]
     if len(places) > MAX_NAMED:
         named.append(f"and {len(places) - MAX_NAMED} more")
@@ -77,45 +99,54 @@ def named_place(finding: Finding, root: str) -> str:
     return f"{finding.title}{finding.judge} in {function}{shown_path(place_text(finding.top), root)}"
 
 
-def unseen(run: Run) -> List[str]:
-    lines = incomplete_lines(process for process in run.processes.values() if not process.is_complete)
-    return [*lines, *(f"asancol: {trouble}" for trouble in run.troubles)]
+def unseen(case: Case, run: Run) -> List[str]:
+    """Returns why not all was seen."""
+    lines = incomplete_lines(process for process in case.processes if not process.is_complete)
+    return [*lines, *(f"asancol: {trouble}" for trouble in run.troubles if case.is_run)]
 
 
-def outcome(number: int, places: List[Finding], results: Results, root: str) -> Tuple[str, str]:
-    """Returns what came of a run, `failure`, `error` or nothing, and the elements that say so."""
-    run = results.runs[number]
-    lines = unseen(run) + ([f"asancol: {run.failure}"] if run.failure else [])
-    said = "\n".join(lines)
-    beside = "\n".join([*abrupt_lines(process for process in run.processes.values() if process.is_abrupt),
-                        *lines_of(filter(results.is_awaited, run.processes.values()), lambda it: it.end)])
+def outcome(case: Case, places: List[Finding], results: Results, root: str) -> Tuple[str, str]:
+    """Returns what came of a test case, `failure`, `error` or nothing, and the elements that say so."""
+    run = results.runs[case.run]
+    incomplete, failed = unseen(case, run), run.failure if case.is_run else ""
+    said = "\n".join([*incomplete, *[f"asancol: {failed}"] * bool(failed)])
+    beside = "\n".join([*abrupt_lines(process for process in case.processes if process.is_abrupt),
+                        *lines_of(filter(results.is_awaited, case.processes), lambda it: it.end)])
     said = "\n".join(filter(None, (said, beside)))
     if places:
-        body = failure(places, number, results, root)
+        body = failure(places, case, results, root)
         return "failure", body + (f"<system-err>{text_of(said)}</system-err>" if said else "")
-    if not run.is_complete:
-        return "error", element("error", "incomplete", lines[0], said)
-    if run.failure:
-        return "failure", element("failure", "command", run.failure, said)
+    if incomplete:
+        return "error", element("error", "incomplete", incomplete[0], said)
+    if failed:
+        return "failure", element("failure", "command", failed, said)
     return "", f"<system-out>{text_of(beside)}</system-out>" if beside else ""
 
 
-def names_of(runs: List[Run]) -> List[str]:
-    """Returns a name for each run, and no two that are the same. Runs of one command on one machine have their folders
-    in it, as seen from the one that all of them are in. Others, and those in one folder, are numbered."""
+def names_of(cases: List[Case], runs: List[Run]) -> List[str]:
+    """Returns a name for each test case, and no two that are the same. Runs of one command on one machine have their
+    folders in it, as seen from the one that all of them are in. Others, and those in one folder, are numbered."""
     same: Dict[str, List[Run]] = {}
     for run in runs:
         same.setdefault(command_line(run.command), []).append(run)
     folders = {command: folders_of(those) for command, those in same.items()}
     names: Dict[str, int] = {}  # and how often each came up
-    for run in runs:
+    for case in cases:
+        run = runs[case.run]
         command = command_line(run.command)
         name = first = (command or "run") + folders[command].get(run.directory, "")
+        if not case.is_run:
+            name = first = name_of(case.processes[0], run)
         while name in names:
             names[first] += 1
             name = f"{first} #{names[first]}"
         names[name] = 1
     return list(names)
+
+
+def name_of(process: Process, run: Run) -> str:
+    program, *others = process.command or ("process",)
+    return command_line([shown_path(program, run.directory), *others])
 
 
 def folders_of(runs: List[Run]) -> Dict[str, str]:
@@ -135,19 +166,35 @@ def when_and_where(runs: List[Run]) -> str:
     return when + (f' hostname="{attribute(hosts.pop())}"' if len(hosts) == 1 else "")
 
 
+def places_of(results: Results, cases: List[Case]) -> List[List[Finding]]:
+    """Returns the places of each test case."""
+    owners: Dict[Tuple[int, int], int] = {}  # by run and process
+    of_run: Dict[int, int] = {}
+    for at, case in enumerate(cases):
+        if case.is_run:
+            of_run[case.run] = at
+        owners.update(((case.run, process.number), at) for process in case.processes)
+    places: List[List[Finding]] = [[] for _ in cases]
+    for finding in (*results.counted(), *results.counted_crashes()):
+        for number, tally in finding.runs.items():
+            numbers = tally.numbers or (tally.process,)
+            found: Set[int] = {owners.get((number, it), of_run[number]) for it in numbers}
+            for at in found:
+                places[at].append(finding)
+    return places
+
+
 def write(results: Results, out: TextIO, options: Options, sources: Sources) -> None:
     root = os.path.realpath(options.value("--source-root", "."))
-    mine: List[List[Finding]] = [[] for _ in results.runs]
-    for finding in (*results.counted(), *results.counted_crashes()):
-        for number in finding.runs:
-            mine[number].append(finding)
-    outcomes = [outcome(number, places, results, root) for number, places in enumerate(mine)]
+    cases = [case for number, run in enumerate(results.runs) for case in cases_of(number, run)]
+    outcomes = [outcome(case, places, results, root) for case, places in zip(cases, places_of(results, cases))]
     failures, errors = (sum(kind == name for kind, _ in outcomes) for name in ("failure", "error"))
     seconds = sum(run.seconds for run in results.runs)
     counts = f'tests="{len(outcomes)}" failures="{failures}" errors="{errors}" time="{seconds:.3f}"'
     out.write(f'<?xml version="1.0" encoding="UTF-8"?>\n<testsuites {counts}>\n')
     out.write(f' <testsuite name="asancol" {counts}{when_and_where(results.runs)}>\n')
-    for name, run, (_, body) in zip(names_of(results.runs), results.runs, outcomes):
-        words = f'classname="asancol" name="{attribute(name)}" time="{run.seconds:.3f}"'
+    for name, case, (_, body) in zip(names_of(cases, results.runs), cases, outcomes):
+        took = results.runs[case.run].seconds if case.is_run else 0
+        words = f'classname="asancol" name="{attribute(name)}" time="{took:.3f}"'
         out.write(f"  <testcase {words}>{body}</testcase>\n")
     out.write(" </testsuite>\n</testsuites>\n")

@@ -9,7 +9,7 @@ from typing import Dict, Iterable, List, NamedTuple, Optional, Tuple
 
 from .consequences import fold
 from .crashes import Crash, CRASH_CLASSES, CRASHES, end_text, line_of_crash
-from .findings import Finding, Place, Stack, Tally, Threads
+from .findings import Finding, MAX_NUMBERS, Place, Stack, Tally, Threads
 from .leaks import at_one_place, Leaks, total
 from .sources import Sources
 from .words import signal_name
@@ -219,7 +219,8 @@ class Results:
                     run.processes[process.number] = process._replace(fingerprint=crash.fingerprint)
                 place = (crash.class_name, crash.fingerprint, crash.top.line, crash.is_awaited)
                 known = self.crash_places.setdefault(place, crash)
-                self.tally(known, number, Tally(1, 1, process.number, process.pid, process.events, process.segments))
+                tally = Tally(1, 1, process.number, process.pid, process.events, process.segments)
+                self.tally(known, number, tally._replace(numbers=(process.number,)))
 
     def crash_of(self, process: Process) -> Optional[Crash]:
         """Returns what stands for the crash of a process; None, if it has not crashed."""
@@ -252,7 +253,8 @@ class Results:
         if before is not None:
             tally = before._replace(times=before.times + tally.times, processes=before.processes + tally.processes,
                                     lost=at_one_place([before.lost, tally.lost]),
-                                    is_awaited=before.is_awaited and tally.is_awaited)
+                                    is_awaited=before.is_awaited and tally.is_awaited,
+                                    numbers=tuple(sorted({*before.numbers, *tally.numbers})[:MAX_NUMBERS]))
         finding.runs[run] = tally
 
     def command_counts(self) -> Counter[Tuple[str, ...]]:

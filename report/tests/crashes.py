@@ -270,7 +270,7 @@ def crash_has_no_place(folder: str) -> None:
     quality = json.loads(report(folder, "a.jsonl", "--codequality", "-", "--source-root", "/tmp").out)
     expect([it["location"]["path"] for it in quality], ["sub/program", "sub/other"], "paths")
     expect_in(report(folder, "a.jsonl", "--junit", "-", "--source-root", "/tmp").out,
-              'message="SEGV: ended by SIGSEGV in sub/program; ABRT: ')
+              'message="SEGV: ended by SIGSEGV in sub/program">', 'message="ABRT: ended by SIGABRT in sub/other">')
     expect_not_in(report(folder, "a.jsonl", "--gen-suppressions").out, "suppression: \n")
 
 

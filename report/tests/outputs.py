@@ -250,6 +250,31 @@ def junit_has_what_a_run_has(folder: str) -> None:
 
 
 @report_test
+def junit_has_the_tests_of_a_suite(folder: str) -> None:
+    """One run around a suite has a test case for each command line, with what its processes and their children have."""
+    program = build(folder)
+    parts = of_program(program, [freed_block(program)], [0, 0, 0, 0, 1, 1])
+    feed = Feed(folder, "--json", "a.jsonl")
+    feed.begin(command=["ctest"])
+    feed.process(0, command=["/tmp/tests/good"])
+    feed.process(1, FREED + END, parts, command=["/tmp/tests/bad", "1"])
+    feed.process(2, FREED + END, parts, command=["/tmp/tests/bad", "2"])
+    feed.process(3, FREED + END, parts, command=["/tmp/tests/bad", "2"])
+    feed.process(4, command=["/tmp/tests/lost"], whole=False, why="its recording ended early")
+    feed.end(status=8)
+    for again in ("a.jsonl", "b.jsonl"):
+        report(folder, again, "--junit", "out.xml", "--json", "b.jsonl")
+        cases = xml.dom.minidom.parse(f"{folder}/out.xml").getElementsByTagName("testcase")
+        expect([it.getAttribute("name") for it in cases],
+               ["ctest", "tests/good", "tests/bad 1", "tests/bad 2", "tests/lost"], "names")
+        expect([[each.tagName for each in it.childNodes][:1] for it in cases],
+               [["failure"], [], ["failure"], ["failure"], ["error"]], "what came of them")
+        expect(cases[0].getElementsByTagName("failure")[0].getAttribute("type"), "command", "the run")
+        expect_in(cases[3].getElementsByTagName("failure")[0].firstChild.data, "==102==ERROR: asancol: heap-use-after-",
+                  "  102 /tmp/tests/bad 2\n")
+
+
+@report_test
 def junit_names(folder: str) -> None:
     """Merged, no two test cases have one name, and none has the name of a machine or what differs on it."""
     def names(*runs: Tuple[str, str, List[str]], argv: Tuple[str, ...] = ()) -> List[str]:
