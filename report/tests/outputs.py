@@ -308,7 +308,8 @@ def code_quality(folder: str) -> None:
     with open(f"{folder}/a.jsonl", encoding="utf-8") as file:
         lines = file.readlines()
     moved = json.loads(lines[-1])
-    for frame in moved["stack"]:
+    moved["block"]["address"] = moved["address"] = moved["bad"] = "3000"
+    for frame in (*moved["stack"], *moved["freed"]):
         frame["line"] += 1
     with open(f"{folder}/b.jsonl", "w", encoding="utf-8") as file:
         file.writelines([*lines, json.dumps(moved) + "\n"])

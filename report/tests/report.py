@@ -570,4 +570,4 @@ def words_are_refused(folder: str) -> None:
         ran = report(folder, *argv)
         expect((ran.status, ran.err), (0, ""), str(argv))
     lines = report(folder, "--help").out.splitlines()
-    expect(len(lines) <= 48 and max(map(len, lines)) <= 80, True, "one screen")
+    expect(len(lines) <= 50 and max(map(len, lines)) <= 80, True, "one screen")
