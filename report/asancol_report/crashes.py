@@ -77,7 +77,8 @@ def own_calls(stack: Stack) -> Stack:
     """Returns the frames that stand for a crash: as for an access, but none of a library of the system, if a later one
     has a line, and none of the recorder, if there is a later one."""
     others = [at for at, frame in enumerate(stack) if not RECORDER.search(frame.file)]
-    with_line = [at for at in others if stack[at].line and not SYSTEM_LIBRARY.match(stack[at].module)]
+    with_line = [at for at in others if (stack[at].line or stack[at].is_bare)
+                 and not SYSTEM_LIBRARY.match(stack[at].module)]
     return own_frames(stack[next(iter([*with_line, *others]), 0):])
 
 

@@ -50,6 +50,7 @@ class Frame(NamedTuple):
     note: str = ""  # in place of all others: why nothing is known, except the program as the module of a crash
     # The column in `text`, from 1; 0 if it is not known. None: the line may not be the one that was built.
     caret: Optional[int] = None
+    is_bare: bool = False  # of the program, but its source was compiled without -g
 
 
 # Inner calls first.
@@ -363,18 +364,18 @@ def is_of_system(file: str) -> bool:
     return SYSTEM_HEADER.search(file) is not None or RUST_LIBRARY.search(file) is not None
 
 
-def first_own(places: Iterable[Tuple[str, int, str]]) -> Tuple[int, int]:
-    """Returns which frame stands for a place, and its line, from the files, lines and modules of all frames: the first
-    with a line that is in no header of the system and not of the languages, or else the first with a line, or else the
-    first. Frames of the system's libraries that come after one of the program are what has called the program: they
-    count only as the last resort."""
+def first_own(places: Iterable[Tuple[str, int, str, bool]]) -> Tuple[int, int]:
+    """Returns which frame stands for a place, and its line, from the files, lines and modules of all frames, and
+    whether they are bare: the first with a line that is in no header of the system and not of the languages, or that is
+    bare, or else the first with a line, or else the first. Frames of the system's libraries that come after one of the
+    program are what has called the program: they count only as the last resort."""
     found: Dict[bool, Tuple[int, int]] = {}  # by whether it may have called the program, or is a language's
     in_program = False
-    for at, (file, line, module) in enumerate(places):
+    for at, (file, line, module, is_bare) in enumerate(places):
         of_library = SYSTEM_LIBRARY.match(module) is not None
         is_last_resort = (of_library and in_program) or LANGUAGE_LIBRARY.search(module) is not None
         in_program = in_program or not of_library
-        if line and not is_last_resort and not is_of_system(file):
+        if is_bare or (line and not is_last_resort and not is_of_system(file)):
             return at, line
         if is_last_resort not in found or (line and not found[is_last_resort][1]):
             found[is_last_resort] = at, line
@@ -383,7 +384,7 @@ def first_own(places: Iterable[Tuple[str, int, str]]) -> Tuple[int, int]:
 
 def own_frames(stack: Stack) -> Stack:
     """Returns the frame that stands for the place, and those that it was inlined into."""
-    first = first_own((frame.file, frame.line, frame.module) for frame in stack)[0]
+    first = first_own((frame.file, frame.line, frame.module, frame.is_bare) for frame in stack)[0]
     last = next((at for at in range(first, len(stack)) if not stack[at].is_inlined), first)
     return stack[first:last + 1]
 

@@ -14,6 +14,7 @@ from .class_names import class_of, INDIRECT_LEAK, LEAK
 from .crashes import STACK_OVERFLOW
 from .findings import (Block, DYNAMIC, Finding, Frame, GLOBAL, HEAP, MAX_NUMBERS, Rows, STACK, Stack, Tally, Thread,
                        Threads, UNKNOWN_THREAD)
+from .functions import is_standard
 from .leaks import at_one_place, Leaks, Sum, SUMMARY, YES
 from .modules import CodeAddress, Modules
 from .results import Process, Results
@@ -325,12 +326,14 @@ class Gatherer:
         base = Frame(module=module.path, offset=place.offset, build=module.build)
         if module.elf and module.elf.is_of_recorder(address) and not (names and names[0].line):
             return (base._replace(function=names[0].function if names else "", file=OF_RECORDER),)
+        is_linked = module.elf is not None and module.elf.is_linked
         if not names:
-            return (base,)
+            return (base._replace(is_bare=is_linked),)
         return tuple(
             base._replace(function=it.function, file=it.file, line=it.line, column=it.column,
                           is_inlined=number < len(names) - 1, text=self.sources.line(it.file, it.line),
-                          caret=self.sources.caret(it.file, it.line, it.column, module.built))
+                          caret=self.sources.caret(it.file, it.line, it.column, module.built),
+                          is_bare=is_linked and not it.file and not is_standard(it.function))
             for number, it in enumerate(names)
         )
 

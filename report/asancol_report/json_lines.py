@@ -124,7 +124,7 @@ def frame_entry(frame: Frame) -> Entry:
     entry: Entry = {"offset": f"{frame.offset:x}"}
     for name, value in (("module", frame.module), ("build_id", frame.build), ("function", frame.function),
                         ("file", frame.file), ("line", frame.line), ("column", frame.column),
-                        ("inlined", frame.is_inlined), ("text", frame.text)):
+                        ("inlined", frame.is_inlined), ("bare", frame.is_bare), ("text", frame.text)):
         if value:
             entry[name] = value
     if frame.caret is not None:
@@ -341,7 +341,8 @@ def frame_of(entry: object) -> Frame:
     get = entry.get if isinstance(entry, dict) else {}.get
     return Frame(text_of(get("module")), address_of(get("offset")), text_of(get("build_id")), text_of(get("function")),
                  text_of(get("file")), number_of(get("line")), number_of(get("column")), get("inlined") is True,
-                 text_of(get("text")), text_of(get("note")), None if get("caret") is None else number_of(get("caret")))
+                 text_of(get("text")), text_of(get("note")), None if get("caret") is None else number_of(get("caret")),
+                 get("bare") is True)
 
 
 def stack_of(value: object) -> Stack:
@@ -433,8 +434,8 @@ def lost_of(entry: Entry) -> Leaks:
 def own_of(stack: object) -> Tuple[str, str, int, int]:
     """Returns function, file, line and column of the frame that stands for a place: as `Finding.top` finds it."""
     frames = [frame for frame in stack if isinstance(frame, dict)] if isinstance(stack, list) else []
-    at, _ = first_own((text_of(frame.get("file")), number_of(frame.get("line")), text_of(frame.get("module")))
-                      for frame in frames)
+    at, _ = first_own((text_of(frame.get("file")), number_of(frame.get("line")), text_of(frame.get("module")),
+                       frame.get("bare") is True) for frame in frames)
     get = frames[at].get if frames else {}.get
     return text_of(get("function")), text_of(get("file")), number_of(get("line")), number_of(get("column"))
 

@@ -280,6 +280,7 @@ class Report:
         if self.baseline:
             self.baseline.apply(self.results.all_places())
         self.results.fold()
+        self.results.note_lines()
 
     def write(self) -> None:
         results = self.results

@@ -12,7 +12,7 @@ from .crashes import Crash, CRASH_CLASSES, CRASHES, end_text, line_of_crash
 from .findings import Finding, MAX_NUMBERS, Place, Stack, Tally, Threads
 from .leaks import at_one_place, Leaks, total
 from .sources import Sources
-from .words import signal_name
+from .words import plural, signal_name
 
 # What a run lists for the options of AddressSanitizer that turned checks off begins so (common/format.h).
 CHECKS_TURNED_OFF = "checks turned off by "
@@ -171,6 +171,20 @@ class Results:
         self.has_log = False  # each process has a file of its own
         self.runs_counted = 0  # of which `commands` has the commands
         self.commands: Counter[Tuple[str, ...]] = Counter()
+
+    def note_lines(self) -> None:
+        """Notes what has no lines: functions of sources that were compiled without them, and sources that are newer
+        than their program."""
+        functions: Dict[str, Dict[str, None]] = {}
+        for top in (it.top for it in self.all_places() if it.counts):
+            if top.is_bare and top.function:
+                functions.setdefault(top.module, {})[top.function] = None
+            elif top.text and top.caret is None:
+                self.notes[f"{top.file} is newer than {top.module}: was that built again?"] = None
+        for module, names in functions.items():
+            first, *more = names
+            others = f" and {plural(len(more), 'more function')}" if more else ""
+            self.notes[f"{first}{others} in {module}: no lines, since the source was compiled without -g"] = None
 
     def add_run(self, run: Run) -> Optional[int]:
         """Adds a run and returns its number. None, if it is there already. One that was cut gives way to its whole."""

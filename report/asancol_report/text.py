@@ -173,15 +173,16 @@ class Text:
         return printable(shown_path(place_text(top), self.root) + function)
 
     def stack(self, stack: Stack, top: Optional[Frame] = None) -> Iterator[str]:
-        """A stack, with the line of source of the frame that stands for the place."""
+        """A stack, with the line of source of the frame that stands for the place, or of the next one that has any."""
         own = next((at for at, frame in enumerate(stack) if frame is top), -1)
+        sourced = next((at for at in range(own, len(stack)) if own >= 0 and stack[at].text), own)
         for first, count, owners in rows_of(stack, own):
             if count > 1 and not self.has_all_frames:
                 yield f"    .. {folded(count, owners)}"
                 continue
             for at in range(first, first + count):
                 yield f"    #{at} {self.frame(stack[at])}"
-                if at == own:
+                if at == sourced:
                     yield from self.source(stack[at])
 
     def source(self, frame: Frame) -> Iterator[str]:

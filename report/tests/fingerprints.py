@@ -156,4 +156,5 @@ def places_of_stacks(folder: str) -> None:
         ([start], (0, 58)),
         ((), (0, 0)),
     ):
-        expect(first_own(stack), wanted, str(stack))
+        expect(first_own((*frame, False) for frame in stack), wanted, str(stack))
+    expect(first_own([(*start, False), (*stripped, True), (*own, False)]), (1, 0), "compiled without lines")

@@ -40,7 +40,7 @@ def source_has_a_caret(folder: str) -> None:
     expect_not_in(ran.out, ' | here("use")')
     expect_in(ran.out, "in use program.c:7")
     with open(f"{folder}/a.jsonl", encoding="utf-8") as one, open(f"{folder}/b.jsonl", encoding="utf-8") as other:
-        prints = [[it.get("fingerprint") for it in map(json.loads, file)] for file in (one, other)]
+        prints = [[it["fingerprint"] for it in map(json.loads, file) if "fingerprint" in it] for file in (one, other)]
     expect(prints[1], prints[0], "fingerprints")
 
 
