@@ -351,7 +351,8 @@ void report_again(struct process *process)
 
 void report_segment(struct segment *segment)
 {
-    int asks = segment->outcome.asks_words ? asking_of(segment->process->peer) : -1;
+    bool is_asked = segment->outcome.asks_words || segment->outcome.is_unsaid;
+    int asks = is_asked ? asking_of(segment->process->peer) : -1;
     if (is_shown(segment)) {
         show(segment, asks);
         return;

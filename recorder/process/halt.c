@@ -22,6 +22,7 @@
 #include "process/preload_wait.h"
 #include "process/root.h"
 #include "stream/record.h"
+#include "stream/sending.h"
 #include "stream/side.h"
 #include "stream/state.h"
 
@@ -54,7 +55,7 @@ static void record(enum code code, unsigned width, uint64_t address, uintptr_t c
         record_piece_of(code, width, address, caller, whole);
 }
 
-/* Whether the run has this report, and prints it where this process would. The run names functions and lines. */
+/* Whether the run prints this report where this process would, if it can't be asked for the words. */
 static bool is_left_to_run(void)
 {
     char digits[DIGITS_ROOM];
@@ -72,12 +73,14 @@ static bool is_left_to_run(void)
     return strcmp(file + length + 1, put_digits(digits + sizeof digits, seen.st_ino, 1)) == 0;
 }
 
-/* Asks the run for the report in words, while it is not yet there. Returns the connection, or an error below zero. */
-static int ask_for_words(int *patience_ms)
+/* Asks the run for the report in words, with functions and lines, while it is not yet there: so it stands before what
+   the program says at its end, and before a debugger stops it. Files of `log_path` are the run's. Returns the
+   connection, or an error below zero. */
+static int ask_for_words(bool is_left, int *patience_ms)
 {
     const struct settings *settings = recorder_settings();
     *patience_ms = settings->patience_ms;
-    if (settings->text == NULL || !is_on() || !is_hub())
+    if (settings->text == NULL || !is_on() || !is_hub() || (is_left && halt_report_descriptor() < 0))
         return -ENOENT;
     return ask_begin(recorder_hub(), ASK_REPORT, true, patience_ms);
 }
@@ -158,11 +161,14 @@ void halt_at(enum code code, unsigned width, uint64_t address, uintptr_t caller,
     if (recorder_begins_late() && recorder_begin_late())
         record(code, width, address, caller, whole);
     bool is_left = is_left_to_run();
-    int patience_ms, words = is_left ? -ENOENT : ask_for_words(&patience_ms);
+    int patience_ms, words = ask_for_words(is_left, &patience_ms);
     side_note_halted(is_left ? HALTED_UNSAID : words >= 0 ? HALTED_AND_ASKS : HALTED_AND_SAID);
     recorder_finish(FINISH_CLOSED);
+    if (words >= 0)
+        stream_hang_up(); /* a copy of the trace is whole at its end */
     const struct told told = record_told(code, width, address, caller, whole);
-    if (!side_is_at_exit() || (!is_left && !print_words(words, patience_ms)))
+    bool is_printed = side_is_at_exit() && (print_words(words, patience_ms) || is_left);
+    if (!is_printed)
         halt_report(&told);
     if (is_telling())
         above.tell(&told);

@@ -4,8 +4,8 @@
    sending_try by growing.c with it. The rest in any thread, also in a handler, without it: sending_is_cut by
    watched.c before a bad access or free is looked at, and stream_look_at_clock by watched.c, regions.c, findings.c
    and process/process.c after a record, take it if it is free, and wait a while for it at an exit alone;
-   stream_hang_up by process/root.c, as the process ends, takes none. stream_make_way by checks of calls
-   (interface/hooks.def) takes it if it is free. */
+   stream_hang_up by process/root.c and process/halt.c, as the process ends, takes none. stream_make_way by checks of
+   calls (interface/hooks.def) takes it if it is free. */
 #ifndef ASANCOL_SENDING_H
 #define ASANCOL_SENDING_H
 

@@ -156,10 +156,13 @@ class Hub:
             return None
 
 
-def answer(connection: int, text: str) -> None:
-    """Gives a process that waits its report. It may be gone, or stand still: then nobody waits for it."""
+def answer(connection: int, text: str) -> bool:
+    """Gives a process that waits its report. False: it has not all of it. It may be gone, or stand still: then nobody
+    waits for it."""
+    data = text.encode(errors="surrogateescape")
     with socket.socket(fileno=os.dup(connection)) as waiting, suppress(OSError):
-        waiting.send(text.encode(errors="surrogateescape"), socket.MSG_DONTWAIT | socket.MSG_NOSIGNAL)
+        return waiting.send(data, socket.MSG_DONTWAIT | socket.MSG_NOSIGNAL) == len(data)
+    return False
 
 
 def find_run(beside: str) -> str:

@@ -240,11 +240,11 @@ class Report:
         if not self.is_live and self.log is None and not process.is_unsaid and asks is None:
             return
         new = gatherer.finish()
-        if asks is not None:
+        if process.is_unsaid and not self.is_log_alone and self.options.value("--format") not in (GCC, GITHUB):
+            self.print_halted(gatherer.came.findings, asks)
+        elif asks is not None and not process.is_unsaid:
             from .hub import answer
             answer(asks, self.halted_text(gatherer.came.findings))
-        if process.is_unsaid and not self.is_log_alone and self.options.value("--format") not in (GCC, GITHUB):
-            self.print_halted(gatherer.came.findings)
         if self.log is not None:
             self.log.take(gatherer)
         gatherer.came.findings.clear()
@@ -257,12 +257,17 @@ class Report:
         self.text.new_places([it for it in new if it.place not in self.text.shown], self.results)
         self.flush()
 
-    def print_halted(self, findings: List[Finding]) -> None:
-        """Prints the reports of a process that has halted."""
+    def print_halted(self, findings: List[Finding], asks: Optional[int]) -> None:
+        """Prints the reports of a process that has halted, which does that itself if it waits for the words."""
         counted = [finding for finding in findings if self.counts(finding)]
         for finding in counted:
             self.text.shown[finding.place] = self.text.shown.get(finding.place, 0) + 1
-        sys.stdout.write(self.halted_text(counted))
+        text = self.halted_text(counted)
+        if asks is not None:
+            from .hub import answer
+            if answer(asks, text):
+                return
+        sys.stdout.write(text)
         self.flush()
 
     def halted_text(self, findings: List[Finding]) -> str:

@@ -262,6 +262,30 @@ def check_halts(suite: Suite, folder: str) -> None:
         expect(texts(ran, status), (0, 0), ran.err)
 
 
+ENDING = """
+#include <signal.h>
+#include <stdlib.h>
+#include <unistd.h>
+static void ends(int number) { (void)number; _exit(write(2, "it ends\\n", 8) == 8 ? 7 : 8); }
+static void past(char *block, int at) { block[at] = 1; }
+int main(void) { signal(SIGABRT, ends); past(malloc(8), 8); return 0; }
+"""
+
+
+def check_words_come_first(suite: Suite, folder: str) -> None:
+    """The report stands before what the program says as it ends, such as libFuzzer's handler of SIGABRT: under a run,
+    and in one of its own. A run with another form prints that alone."""
+    write_text(f"{folder}/e.c", ENDING)
+    call([f"{TOP}/recorder/asancol-cc", "-g", "-w", "e.c", "-o", "e"], cwd=folder, check=True)
+    halts = {"ASANCOL_HALT": "1", "ASANCOL_REPORT": REPORT}
+    for ran in (suite.run("--", f"{folder}/e", **halts), suite.run("-q", "--live", "--", f"{folder}/e", **halts),
+                suite.run_argv([f"{folder}/e"], ASANCOL_RUN=RUN, **halts)):
+        expect((ran.err.count(HALTED), ran.err.count(" in past /")), (1, 1), ran.err)
+        expect(ran.err.index(HALTED) < ran.err.index("==ABORTING") < ran.err.index("it ends"), True, ran.err)
+    ran = suite.run("--format=gcc", "--", f"{folder}/e", **halts)
+    expect((ran.err.count(HALTED), ran.err.count("e.c:6:51: error: ")), (0, 1), ran.err)
+
+
 THREADED = """
 #include <pthread.h>
 #include <stdlib.h>
@@ -500,7 +524,7 @@ def tests(suite: Suite) -> None:
         ("named", check_named), ("asked", check_asked), ("symbolizer", check_symbolizer),
         ("leaks", check_leaks), ("functions", check_functions), ("death test", check_death_test),
         ("halts", check_halts), ("halts at once", check_at_once), ("exit at a halt", check_exit_at_halt),
-        ("log path", check_log_path), ("no log", check_no_log),
+        ("words of a halt come first", check_words_come_first), ("log path", check_log_path), ("no log", check_no_log),
         ("mismatches", check_mismatches), ("mistakes", check_mistakes), ("same options", check_same_options),
         ("relative suppressions", check_relative_rules), ("fates", check_fates), ("turned off", check_turned_off),
     ):
