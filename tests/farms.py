@@ -6,7 +6,8 @@ usage: tests/farms.py [--list] [--junit FILE] ASANCOL [WORD..]
 
 With words, only recipes whose names have one of them. A recipe whose tool is not there is left out, and a line says so.
 Each runs in a copy of the folder `project`. The page docs/FARMS.md has to have the commands of each. And projects come
-from AddressSanitizer by changing the compiler alone (switching.py).
+from AddressSanitizer by changing the compiler alone (switching.py). Tests of frameworks fail by reports
+(frameworks.py).
 """
 
 import contextlib
@@ -25,6 +26,7 @@ from typing import Callable, Dict, Iterator, List, NamedTuple, Sequence, Set, Tu
 
 sys.path.insert(0, f"{os.path.dirname(os.path.realpath(__file__))}/..")  # where `testing` is
 
+import frameworks
 import switching
 from testing import TOP, Failure, LeftOut, Suite, expect, expect_in, suite, wait_until, write_text
 from testing.programs import REPORT, ran_of, run
@@ -376,6 +378,7 @@ class Farm(Suite):
             name = recipe.script.split(".")[0]
             self.test(f"page: {name}", check_page, recipe)
             self.test(f"recipe: {name}", check_recipe, recipe)
+        frameworks.add_tests(self, self.settings)
         switching.add_tests(self, self.settings)
 
     def clean_up(self) -> None:

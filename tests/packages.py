@@ -217,6 +217,7 @@ def package_is_whole(_: str, folder: str) -> None:
     wanted += ["lib/asancol/no-second-allocator.ld", "lib/asancol/cold_reports.h", "lib/asancol/clang_intrinsics.h",
                "lib/asancol/cxx/libc++/__config"]
     wanted += ["lib/asancol/cxx/libstdc++/bits/basic_string.tcc", "lib/asancol/libasancol_preload.so"]
+    wanted += ["lib/asancol/include/asancol/googletest.h"]
     wanted += [f"lib/asancol/for-{it}/libasancol_before_libasan.so" for it in ("x86_64", "haswell", "i686")]
     wanted += ["lib/asancol/cargo/rustc", "lib/asancol/cargo/rustdoc"]
     for name in completions.PROGRAMS:

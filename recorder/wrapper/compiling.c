@@ -162,7 +162,8 @@ char *compiling_object(const struct job *job)
 }
 
 /* Where the headers of the library of C++ are that have its strings and streams compiled here, or taken from where they
-   are compiled once for all. They stand before others that are looked for in the same way, and include these. */
+   are compiled once for all. They stand before others that are looked for in the same way, and include these. Those
+   for test frameworks stand after all others. */
 static void add_headers(struct strings *line, const struct job *job)
 {
     const struct request *request = &job->request;
@@ -175,6 +176,7 @@ static void add_headers(struct strings *line, const struct job *job)
         add_file(line, option, "cxx/libstdc++");
     if (request->is_libcxx || request->is_without_cxx)
         add_file(line, option, "cxx/libc++");
+    add_file(line, "-idirafter", "include");
 }
 
 void compiling_add_before(struct strings *line, const struct job *job)
