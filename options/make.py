@@ -57,6 +57,8 @@ def files_of(name: str, programs: List[table.Program]) -> Dict[str, str]:
             files[path] = f".so man1/{first}.1\n"
         if program.name == "asancol-run":
             files["run/option_table.h"] = sources.header_of(program, made)
+        if program.name == "asancol-cc":
+            files["recorder/wrapper/help.h"] = sources.help_header_of(program, made)
         if program.name == "asancol-report":
             files["report/asancol_report/option_table.py"] = sources.module_of(program, made)
         if program.name == "asancol-listen":

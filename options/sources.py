@@ -86,6 +86,22 @@ def header_of(program: Program, made: str) -> str:
     ])
 
 
+def help_header_of(program: Program, made: str) -> str:
+    """Returns the header for command.c of the wrapper."""
+    return "\n".join([
+        f"/* {made}",
+        "",
+        "   Called: command.c includes it, in the one thread of the wrapper; no lock. */",
+        "#ifndef ASANCOL_WRAPPER_HELP_H",
+        "#define ASANCOL_WRAPPER_HELP_H",
+        "",
+        "/* clang-format off */",
+        macro("WRAPPER_HELP", [json.dumps(f"{it}\n") for it in help_of(program)]),
+        "#endif",
+        "",
+    ])
+
+
 def literal(value: Union[str, Sequence[str]]) -> str:
     """Returns a value as Python has it."""
     return json.dumps(value) if isinstance(value, str) else f"({', '.join(map(json.dumps, value))})"

@@ -4,7 +4,8 @@ import os
 import re
 import shutil
 
-from support import CC, CXX, Failure, HELPER, PAST_THE_END, build, expect, noted, one_mark, reports, run, write
+from support import (CC, CXX, HELPER, PAST_THE_END, TOP, Failure, build, expect, noted, one_mark, reports, run,
+                     write)
 
 
 class Builder:
@@ -368,8 +369,14 @@ def check_languages(suite, folder, compiler):
 def check_passed_on(suite, folder, compiler):
     """What compiles nothing is passed on as it is, and errors are the compiler's own, with its status."""
     made = Builder(suite, folder, compiler)
-    for argv in (["--version"], ["-dumpmachine"], ["-print-prog-name=ld"], ["-print-search-dirs"]):
+    for argv in (["-dumpmachine"], ["-print-prog-name=ld"], ["-print-search-dirs"], ["--version", "-w"]):
         expect(made.cc(*argv), run([compiler.name, *argv], folder).stdout, f"{argv}")
+    with open(f"{TOP}/VERSION", "rb") as file:
+        release = file.read()
+    wanted = run([compiler.name, "--version"], folder).stdout + b"asancol-cc (asancol) " + release
+    expect(made.cc("--version"), wanted, "--version")
+    shown = made.cc("--asancol-help")
+    expect((b"  --asancol-loops " in shown, shown.endswith(b"\nasancol " + release)), (True, True), shown)
     ours = run([CC, "-v"], folder, ASANCOL_CC=compiler.name)
     theirs = run([compiler.name, "-v"], folder)
     expect((ours.returncode, ours.stderr.splitlines()[-1]), (0, theirs.stderr.splitlines()[-1]), "-v")
@@ -508,8 +515,8 @@ def check_named(suite, folder, compiler):
     os.symlink("asancol-clang++", f"{folder}/bin/first")
     for name, word in (*((it, f"asancol-{it}") for it in NAMED), ("clang++", "first")):
         for option, wanted in (([], name), (["--asancol-compiler=other"], "other")):
-            said = run([word, *option, "--version"], folder, **settings).stdout.decode()
-            expect(said, f"{wanted} --version\n", word)
+            said = run([word, *option, "-dumpmachine"], folder, **settings).stdout.decode()
+            expect(said, f"{wanted} -dumpmachine\n", word)
     os.symlink(CC, f"{folder}/bin/asancol-no-such-one")
     said = run(["asancol-no-such-one", "a.c"], folder, **settings).stderr.decode()
     expect(said, "asancol-cc: error: no-such-one: there is no such compiler\n", "a compiler that is missing")
@@ -524,9 +531,10 @@ def check_names(suite, folder, compiler):
         os.symlink(target, f"{folder}/bin/{name}")
     for name, _, language in CALLED:
         for word in filter(lambda _, language=language: language, (name, f"bin/{name}", f"{folder}/bin/{name}")):
-            expect(run([word, "--version"], folder, **settings).stdout.decode(), f"{language} --version\n", word)
+            said = run([word, "-dumpmachine"], folder, **settings).stdout.decode()
+            expect(said, f"{language} -dumpmachine\n", word)
     shutil.copy(CC, f"{folder}/g++")
-    expect(run(["./g++", "--version"], folder, **settings).stdout, b"C++ --version\n", "a copy")
+    expect(run(["./g++", "-dumpmachine"], folder, **settings).stdout, b"C++ -dumpmachine\n", "a copy")
     said = run(["g++", "a.cc"], folder, **{**settings, "ASANCOL_CXX": "no-such-one"}).stderr.decode()
     expect(said, "asancol-c++: error: no-such-one: there is no such compiler\n", "what it calls itself")
 

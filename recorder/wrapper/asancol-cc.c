@@ -10,6 +10,7 @@
    call all of the C library. Its only signal handler is pass_on in running.c. */
 #define _GNU_SOURCE
 #include <stdio.h>
+#include <string.h>
 #include <sys/auxv.h>
 
 #include "common/standard.h"
@@ -78,6 +79,8 @@ int main(int count, char **argv)
     request->has_no_run = own.has_no_run;
     job.command = command_of(own.compiler, job.front);
     read_arguments(&job);
+    if (job.arguments[0] != NULL && job.arguments[1] == NULL && strcmp(job.arguments[0], "--version") == 0)
+        return running_version(&job);
     job.takes_part = request->inputs.has_any && request->foreign == NULL;
     job.links = request->inputs.has_linked && !request->stops_early && !request->link.is_partial;
     const struct linked *linked = &request->inputs.linked;

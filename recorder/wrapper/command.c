@@ -4,19 +4,27 @@
 #include "wrapper/command.h"
 
 #include <limits.h>
+#include <stdio.h>
 #include <stdlib.h>
 #include <string.h>
 
 #include "common/must.h"
 #include "common/path.h"
 #include "common/text.h"
+#include "wrapper/help.h"
 #include "wrapper/say.h"
 #include "wrapper/self.h"
+
+static _Noreturn void show_help(void)
+{
+    fputs(WRAPPER_HELP "asancol " RELEASE "\n", stdout);
+    exit(fflush(stdout) != 0);
+}
 
 struct own_options own_options_take(char **argv, const struct called *called)
 {
     static const char all[] = "--asancol-all", all_loops[] = "--asancol-all-loops", compiler[] = "--asancol-compiler=";
-    static const char loops[] = "--asancol-loops", no_run[] = "--asancol-no-run";
+    static const char loops[] = "--asancol-loops", no_run[] = "--asancol-no-run", help[] = "--asancol-help";
     const char *setting = getenv("ASANCOL_ALL");
     struct own_options own = {.compiler = called->compiler, .is_all = setting != NULL && strcmp(setting, "1") == 0};
     if (own.compiler == NULL)
@@ -31,6 +39,8 @@ struct own_options own_options_take(char **argv, const struct called *called)
             own.has_loops = own.has_all_loops = true;
         else if (strcmp(*word, no_run) == 0)
             own.has_no_run = true;
+        else if (strcmp(*word, help) == 0)
+            show_help();
         else if (begins_with(*word, compiler))
             own.compiler = *word + strlen(compiler);
         else

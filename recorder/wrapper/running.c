@@ -165,6 +165,14 @@ static int wait_for(pid_t child, const char *name)
     return WIFEXITED(status) ? WEXITSTATUS(status) : 1;
 }
 
+int running_version(const struct job *job)
+{
+    struct strings line = make_line(job, false);
+    int status = wait_for(start_compiler(&line, STDOUT_FILENO, ERRORS_OURS), line.items[0]);
+    printf("%s (asancol) " RELEASE "\n", job->front->name);
+    return fflush(stdout) != 0 ? 1 : status;
+}
+
 /* The compiler that makes an object, and the signal that came meanwhile to end the wrapper. */
 static _Atomic pid_t compiler;
 static volatile sig_atomic_t ending;

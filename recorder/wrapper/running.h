@@ -12,6 +12,8 @@
 int running_link(struct job *job);
 /* Compiles an object that asks for checked_names.h, and returns the status to end with. */
 int running_compile(struct job *job);
+/* Lets the compiler say its version, and says the wrapper's. Returns the status to end with. */
+int running_version(const struct job *job);
 /* Becomes the compiler. */
 _Noreturn void running_become(const struct job *job);
 
