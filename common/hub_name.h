@@ -32,6 +32,10 @@ enum { MARK_SHORT_PROGRAM = 40 };
    A process that halts asks for its report in words before its recording ends. It comes once that is checked, unless
    the process is to print its own.
 
+   A process that goes on asks for one report: in a second line the number of its event, or 0 and the number of a
+   finding in the list of faults, and the file to which it prints the words. It takes them up to the end of the
+   answer, and sends a byte back once they are printed.
+
    A program that started its own run tells with which status it ends, as of waitpid, in a second line. Once the verdict
    is printed it gets the status of the run in digits, or another text if its own applies. It connects at its start,
    with the word alone, since it may be unable to later. */
@@ -39,6 +43,7 @@ enum { MARK_SHORT_PROGRAM = 40 };
 #define ASK_UNSEEN "unseen"
 #define ASK_STATUS "status"
 #define ASK_REPORT "report"
+#define ASK_SHOW "show"
 enum { ASK_MOST = 512, SETTINGS_MOST = 8192 };
 
 /* The connection of a program to its own run, whether that has begun or not, takes these bytes too. The program ends,

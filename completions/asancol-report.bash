@@ -22,6 +22,10 @@ _asancol_report() {
         mapfile -t COMPREPLY < <(compgen -W 'asancol asan gcc github' -- "$word")
         return
         ;;
+    --live)
+        mapfile -t COMPREPLY < <(compgen -W 'access exit end' -- "$word")
+        return
+        ;;
     --source-root)
         mapfile -t COMPREPLY < <(compgen -d -- "$word")
         compopt -o filenames 2> /dev/null

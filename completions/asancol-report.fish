@@ -14,7 +14,7 @@ complete -c asancol-report -l source-url -x -d 'address of a line of source, for
 complete -c asancol-report -l category -x -d 'what tells this result from others, in --sarif'
 complete -c asancol-report -l format -x -a 'asancol asan gcc github' -d 'reports as asancol, asan, gcc or github'
 complete -c asancol-report -l log-path -x -d 'write the text of asan to PREFIX.PID, too'
-complete -c asancol-report -l live -d 'print the first report of each place when it comes'
+complete -c asancol-report -l live -x -a 'access exit end' -d 'reports come at: access, exit or end'
 complete -c asancol-report -l crashes -d 'count crashes that a parent waited for, too'
 complete -c asancol-report -l source-root -x -a '(__fish_complete_directories)' -d 'show files under DIR by their paths from there'
 complete -c asancol-report -l color -x -a 'auto always never' -d 'colors: auto, always or never'

@@ -15,7 +15,7 @@ _arguments -S \
     '--category=[what tells this result from others, in --sarif]:name' \
     '--format=[reports as asancol, asan, gcc or github]:form:(asancol asan gcc github)' \
     '--log-path=[write the text of asan to PREFIX.PID, too]:file:_files' \
-    '--live[print the first report of each place when it comes]' \
+    '--live=[reports come at: access, exit or end]:how:(access exit end)' \
     '--crashes[count crashes that a parent waited for, too]' \
     '--source-root=[show files under DIR by their paths from there]:folder:_files -/' \
     '--color=[colors: auto, always or never]:when:(auto always never)' \

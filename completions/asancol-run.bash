@@ -10,8 +10,8 @@ _asancol_run() {
         --) ended=' ' ;;
         --exitcode | --error-exitcode | --incomplete-exitcode | --nothing-exitcode | --at-least | --wait | --timeout | \
             --json | --sarif | --junit | --codequality | --markdown | --html | --source-url | --category | --keep | \
-            --log-file | --format | --log-path | --source-root | --color | --unchecked | --leaks | --suppressions | \
-            --baseline | --quarantine | --memory | --limit)
+            --log-file | --format | --log-path | --live | --source-root | --color | --unchecked | --leaks | \
+            --suppressions | --baseline | --quarantine | --memory | --limit)
             ((at++))
             [[ ${COMP_WORDS[at]} == = ]] && ((at++))
             ;;
@@ -47,6 +47,10 @@ _asancol_run() {
         ;;
     --format)
         mapfile -t COMPREPLY < <(compgen -W 'asancol asan gcc github' -- "$word")
+        return
+        ;;
+    --live)
+        mapfile -t COMPREPLY < <(compgen -W 'access exit end' -- "$word")
         return
         ;;
     --color)

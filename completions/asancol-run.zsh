@@ -22,7 +22,7 @@ _arguments -S \
     '--log-file=[write all lines here, not to standard error]:file:_files' \
     '--format=[reports as asancol, asan, gcc or github]:form:(asancol asan gcc github)' \
     '--log-path=[write the text of asan to PREFIX.PID, too]:file:_files' \
-    '--live[print reports when their process ends]' \
+    '--live=[reports come at: access, exit or end]:how:(access exit end)' \
     '--crashes[count crashes that a parent waited for, too]' \
     '--source-root=[show files under DIR by their paths from there]:folder:_files -/' \
     '--color=[colors: auto, always or never]:when:(auto always never)' \

@@ -398,7 +398,7 @@ static pid_t start(const struct options *options, int *signals)
         fail(status, options->command[0], strerror(error));
     }
     signals_ignore_writes();
-    if (!options->quiet && !options->live)
+    if (!options->quiet && options->live != LIVE_EXIT)
         progress_allow();
     return command;
 }

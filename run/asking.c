@@ -15,6 +15,7 @@
 #include "peers.h"
 #include "serving.h"
 #include "say.h"
+#include "showing.h"
 
 /* How many seconds one may have connected and not asked. */
 static const double PATIENCE = 1;
@@ -94,6 +95,9 @@ static void take_request(struct asker *asker, char *text)
         answer(asker, settings, length);
     if (is_request(text, ASK_REPORT) && whose == PEER_OURS)
         keep_waiting(asker);
+    if (is_request(text, ASK_SHOW) && whose == PEER_OURS
+        && showing_take(asker->peer.pid, text + strlen(ASK_SHOW), asker->connection))
+        asker->connection = -1;
     if (!is_request(text, ASK_UNSEEN) || whose == PEER_OTHERS)
         return;
     if (whose != PEER_OURS) {

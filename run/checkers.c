@@ -33,6 +33,7 @@ static struct {
     bool is_fixed;          /* whatever the process has held */
     bool keeps;
     bool are_held; /* who sends nothing has nothing to report */
+    bool are_live; /* they print each report when they find it */
 } checkers;
 
 /* What a checker runs as, with as much held as the process holds: else it would report good events. */
@@ -43,9 +44,11 @@ static struct strings argv_for(const struct segment *segment)
     struct strings argv = {0};
     bool is_other = segment->side != NULL && segment->outcome.quarantine != checkers.quarantine && !checkers.is_fixed;
     strings_add(&argv, "asancol");
-    if (checkers.options.count == 0 && !is_other)
+    if (checkers.options.count == 0 && !is_other && !checkers.are_live)
         return argv;
     strings_add(&argv, "check");
+    if (checkers.are_live)
+        strings_add(&argv, "--live");
     for (size_t i = 0; i < checkers.options.count; i += 2)
         if (!is_other || strcmp(checkers.options.items[i], option) != 0) {
             strings_add(&argv, checkers.options.items[i]);
@@ -87,6 +90,7 @@ void checkers_begin(const struct options *options)
     checkers.is_fixed = options->are_files && options->quarantine != NULL;
     checkers.keeps = options->keep != NULL;
     checkers.are_held = options->are_held;
+    checkers.are_live = options->live == LIVE_ACCESS && !options->are_files;
     if (checkers.keeps)
         keep_begin(options->keep);
 }

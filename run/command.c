@@ -28,6 +28,7 @@ static void set_text(const struct options *options)
     char file[48] = "log";
     char *report = find_own_program("asancol-report", "ASANCOL_REPORT");
     unsetenv("ASANCOL_TEXT");
+    unsetenv("ASANCOL_LIVE");
     bool is_there = report != NULL && (options->log_is_alone || fstat(say_descriptor(), &seen) == 0);
     free(report);
     if (!is_there)
@@ -35,6 +36,8 @@ static void set_text(const struct options *options)
     if (!options->log_is_alone)
         snprintf(file, sizeof file, "%ju:%ju", (uintmax_t)seen.st_dev, (uintmax_t)seen.st_ino);
     setenv("ASANCOL_TEXT", file, 1);
+    if (options->live == LIVE_ACCESS && !options->log_is_alone && options->log == NULL)
+        setenv("ASANCOL_LIVE", "1", 1);
 }
 
 /* Nothing else of the command's environment changes. */

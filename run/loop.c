@@ -37,12 +37,15 @@
 #include "segments.h"
 #include "serving.h"
 #include "shared.h"
+#include "showing.h"
 #include "signals.h"
 #include "status.h"
 
 /* What a process holds here while it is checked, and how many more descriptors are kept free. */
 enum { HELD_BY_PROCESS = 3, KEPT_FREE = 12 };
 enum { MAX_DESCRIPTORS = 65536 };
+/* What a process that waits for a report holds here, with a margin; with fewer descriptors in all nobody waits. */
+enum { HELD_BY_SHOWN = 16, ENOUGH_TO_SHOW = 256 };
 /* How many connections are accepted before anything else has its turn. */
 enum { MAX_AT_ONCE = 64 };
 /* How many traces in files are checked at once. */
@@ -52,6 +55,7 @@ enum { FILES_AT_ONCE = 8 };
 static const double GRACE = 5;       /* between SIGTERM and SIGKILL of --timeout */
 static const double LOOK = 1;        /* between looks at the remaining processes */
 static const double SHORTAGE = 0.05; /* until a shortage is tried again */
+static const double SHOWING = 0.0005; /* until a report that a process waits for is looked for again */
 static const double LAST = 30;       /* after the last cut, until the rest is left alone */
 static const double PROGRESS = 2;    /* until there is a line of progress */
 static const double LIFE = 10;       /* until the first line while the command runs */
@@ -105,7 +109,8 @@ static void hold_processes(void)
 
 static bool has_room(void)
 {
-    size_t held = run.base + HELD_BY_PROCESS * segment_live_count() + report_held() + modules_held() + asking_held();
+    size_t held = run.base + HELD_BY_PROCESS * segment_live_count() + report_held() + modules_held() + asking_held()
+                  + showing_held();
     return now() >= run.short_until && (segment_live_count() == 0 || held + HELD_BY_PROCESS <= run.descriptors);
 }
 
@@ -312,6 +317,8 @@ static double until_due(double seconds, bool is_short)
     double first = held_due() < shared_due() ? held_due() : shared_due(), left = first - now();
     if (!is_short && arrivals_are_ready())
         return 0;
+    if (showing_held() > 0 && seconds > SHOWING)
+        seconds = SHOWING;
     return left >= seconds ? seconds : left > 0 ? left : 0;
 }
 
@@ -372,6 +379,7 @@ static void wait_once(double seconds)
     take_accepted();
     start_arrivals(polls[ARRIVALS].revents != 0);
     take_held(polls[HELD].revents != 0, !accepts);
+    showing_look();
     for (int i = 0; i < HUB_LISTENERS; i++)
         if (polls[FIRST + i].revents != 0)
             accept_from(hub_listeners()[i]);
@@ -621,6 +629,8 @@ struct collected loop_run(const struct options *options, pid_t command, int sign
     run.timeout_at = options->timeout > 0 ? run.started + options->timeout : 0;
     hold_processes();
     modules_allow(run.descriptors / 4);
+    if (options->live == LIVE_ACCESS)
+        showing_begin(run.descriptors < ENOUGH_TO_SHOW ? 0 : run.descriptors / HELD_BY_SHOWN);
     take_accepted();
     while (!is_over())
         wait_once(do_due());

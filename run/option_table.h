@@ -29,7 +29,7 @@
     "  --log-file FILE          write all lines here, not to standard error\n" \
     "  --format FORM            reports as asancol, asan, gcc or github (asancol)\n" \
     "  --log-path PREFIX        write the text of asan to PREFIX.PID, too\n" \
-    "  --live                   print reports when their process ends\n" \
+    "  --live HOW               reports come at: access, exit or end (access)\n" \
     "  --crashes                count crashes that a parent waited for, too\n" \
     "  --source-root DIR        show files under DIR by their paths from there\n" \
     "  --color WHEN             colors: auto, always or never (auto)\n" \
@@ -61,6 +61,7 @@
     .nothing = 98, \
     .at_least = 0, \
     .wait = 5, \
+    .live = 0, \
     .leaks = 0, \
     .unchecked = 0
 
@@ -84,7 +85,7 @@
     {"log-file", 0, SET_OUTPUT, AT(log), 0, 0, NULL}, \
     {"format", 0, PASS_WORDS, 0, 0, 0, (const char *const[]){"asancol", "asan", "gcc", "github", NULL}}, \
     {"log-path", 0, PASS_PREFIX, 0, 0, 0, NULL}, \
-    {"live", 0, PASS_FLAG, AT(live), 0, 0, NULL}, \
+    {"live", 0, PASS_WORDS, AT(live), 0, 0, (const char *const[]){"access", "exit", "end", NULL}}, \
     {"crashes", 0, PASS_FLAG, AT(crashes), 0, 0, NULL}, \
     {"source-root", 0, PASS_FOLDER, 0, 0, 0, NULL}, \
     {"color", 0, PASS_WORDS, 0, 0, 0, (const char *const[]){"auto", "always", "never", NULL}}, \

@@ -324,6 +324,8 @@ static void pass_word(struct options *options, const struct option *option, cons
         options->unchecked = (enum unchecked)place;
     if (option->offset == AT(leaks))
         options->leaks = (enum leaks)place;
+    if (option->offset == AT(live))
+        options->live = (enum live)place;
     options->has_output |= strcmp(value, "github") == 0; /* annotations are made by the report alone */
     pass(options, dashed, value);
 }

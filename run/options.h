@@ -12,6 +12,9 @@
 #include "common/string_list.h"
 #include "unchecked.h"
 
+/* When reports are printed, by the words of --live. */
+enum live { LIVE_ACCESS, LIVE_EXIT, LIVE_END };
+
 /* What happens to leaks, by the words of --leaks: each place is a report, they are summed up, or nobody looks. */
 enum leaks { LEAKS_YES, LEAKS_SUMMARY, LEAKS_NO };
 
@@ -22,7 +25,8 @@ struct options {
     uint64_t at_least;
     double wait;
     double timeout; /* 0: none */
-    bool quiet, verbose, live, crashes;
+    bool quiet, verbose, crashes;
+    enum live live;
     bool no_mismatches;     /* of families of functions that allocate: they are not noted */
     bool records_full;      /* each malloc and free */
     bool preloads;          /* the recorder into programs that asancol-cc did not build */

@@ -343,6 +343,35 @@ static void show(struct segment *segment, int asks)
     enqueue(NULL, parcel);
 }
 
+static void put_shown(FILE *to, const struct segment *segment, const struct report_shown *shown, size_t files)
+{
+    struct process *process = segment->process;
+    fprintf(to, "{\"type\":\"show\",\"n\":%zu,\"pid\":%d,\"segment\":%" PRIu64 ",\"line\":", process_number(process),
+            process->own_number, segment->number + 1);
+    json_text(to, shown->line);
+    fprintf(to, ",\"entry\":%" PRIu32 ",\"file\":\"%s\",\"files\":%zu}", shown->entry, shown->file, files);
+}
+
+void report_shown(struct segment *segment, const struct report_shown *shown)
+{
+    struct parcel *parcel;
+    int files[SIDE_FILES];
+    find_modules(segment);
+    size_t count = modules_copy(&segment->modules, files);
+    FILE *to = new_parcel(&parcel);
+    put_shown(to, segment, shown, count);
+    close_parcel(to);
+    int side = fcntl(segment->side_memory, F_DUPFD_CLOEXEC, STDERR_FILENO + 1);
+    if (side >= 0)
+        parcel->descriptors[parcel->count++] = side;
+    for (size_t i = 0; i < count; i++)
+        parcel->descriptors[parcel->count++] = files[i];
+    parcel->descriptors[parcel->count++] = shown->connection;
+    progress_erase();
+    report_start();
+    enqueue(NULL, parcel);
+}
+
 void report_again(struct process *process)
 {
     keep_words(process);

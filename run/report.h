@@ -2,9 +2,9 @@
    It is started when there is something to report, and takes the descriptors of a process with reports as soon as that
    has ended.
 
-   Called: report_segment by checkers.c; report_again by that, kin.c, marks.c and asancol-run.c; report_held,
-   report_poll, report_send, report_has_ended, report_is_running and report_interrupt by loop.c; the rest by
-   asancol-run.c, at the start and the end; in the one thread of asancol-run; no lock. */
+   Called: report_segment by checkers.c; report_shown by showing.c; report_again by checkers.c, kin.c, marks.c and
+   asancol-run.c; report_held, report_poll, report_send, report_has_ended, report_is_running and report_interrupt by
+   loop.c; the rest by asancol-run.c, at the start and the end; in the one thread of asancol-run; no lock. */
 #ifndef ASANCOL_RUN_REPORT_H
 #define ASANCOL_RUN_REPORT_H
 
@@ -44,6 +44,15 @@ void report_begin(const struct options *options);
 void report_segment(struct segment *segment);
 /* The reported data of a process have changed, or is known since all of its segments are. */
 void report_again(struct process *process);
+
+/* A process waits for one of its reports in words, on this connection, which the message takes. */
+struct report_shown {
+    const char *line; /* of the checker; empty: */
+    uint32_t entry;   /* it is a finding of the recorder's, by its number in the list of faults */
+    const char *file; /* to which the process prints it */
+    int connection;
+};
+void report_shown(struct segment *segment, const struct report_shown *shown);
 
 /* How many descriptors wait to be sent. */
 size_t report_held(void);

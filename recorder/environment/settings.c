@@ -52,6 +52,7 @@ static const char *const names[] = {
     "ASANCOL_POINTER_PAIRS",
     "ASANCOL_MAY_RETURN_NULL",
     "ASANCOL_TEXT",
+    "ASANCOL_LIVE",
 #define FRONT(name, end, variable, usual, has_new, links_libm) variable,
 #include "wrapper/fronts.def"
 };
@@ -250,6 +251,7 @@ static void read_outputs(struct settings *settings)
     if (settings->hub != NULL)
         settings->trace = traces_beside(settings->hub, &beside);
     settings->text = settings->hub != NULL ? kept_value("ASANCOL_TEXT", &text) : NULL;
+    settings->is_live = settings->text != NULL && number_of("ASANCOL_LIVE", 0, 1, 0) == 1;
 }
 
 /* What AddressSanitizer has options for too. A variable of ASANCOL comes first, except that a process can turn leaks

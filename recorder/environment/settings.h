@@ -23,6 +23,7 @@ struct settings {
                            can't be reached */
     const char *socket; /* or null */
     const char *text;   /* the file to which the run prints: "DEVICE:NODE", "log" (of log_path), or null */
+    bool is_live;       /* reports are printed where they come up */
     uint64_t limit;    /* of events in a stream */
     uint64_t segments; /* how many of a process are kept; 0: the limit ends the recording */
     uint64_t stop; /* the event at which the process stops; 0: none */

@@ -353,7 +353,7 @@ static __attribute__((noinline)) void give_back_slowly(void *pointer, struct ori
     /* Nothing is recorded yet, and in the lock it could not begin. */
     if (UNLIKELY(is_bad) && stream_state() == STATE_UNSTARTED)
         record_bad_free(address, from.caller, call);
-    if (is_telling())
+    if (is_telling() || is_showing())
         above.tell_waiting();
     /* Outside the lock: a function called before the end may allocate. */
     if (UNLIKELY(is_bad) && atomic_load(&halt_is_on)) {

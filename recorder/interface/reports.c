@@ -15,6 +15,7 @@
 #include "base/system.h"
 #include "heap/heap.h"
 #include "process/process.h"
+#include "process/showing.h"
 #include "report/code.h"
 #include "report/describing.h"
 #include "stacks/stacks.h"
@@ -80,7 +81,10 @@ void reports_tell(const struct told *told)
         has_waiting = true;
         return;
     }
-    tell(told, (uintptr_t)__builtin_frame_address(0));
+    if (is_showing())
+        show_report(told);
+    if (is_telling())
+        tell(told, (uintptr_t)__builtin_frame_address(0));
 }
 
 void reports_tell_waiting(void)
@@ -89,7 +93,7 @@ void reports_tell_waiting(void)
         return;
     struct told told = waiting;
     has_waiting = false;
-    tell(&told, (uintptr_t)__builtin_frame_address(0));
+    reports_tell(&told);
 }
 
 void reports_call_on_error(void (*function)(void))

@@ -38,7 +38,8 @@ extern const struct reports reports;
 
 /* At the start: the program has a function of this name. */
 void reports_call_on_error(void (*on_error)(void));
-/* Tells the program, unless it knows of this place. While it is being told of another report this one is dropped: then
+/* Prints the first report of each place in the run's words (process/showing.h), and tells the program, unless it knows
+   of this place. While it is being told of another report this one is dropped: then
    the next one at this place is told. In the allocator the report waits, in its thread. */
 void reports_tell(const struct told *told);
 /* Tells the report that this thread has waiting, if there is one and the thread has left the allocator. */

@@ -249,6 +249,7 @@ static void give_settings(const char *hub)
         joined_add(&joined, put_digits(digits + sizeof digits, seen.st_dev, 1), sizeof digits);
         joined_add(&joined, ":", 1);
         joined_add(&joined, put_digits(digits + sizeof digits, seen.st_ino, 1), sizeof digits);
+        joined_add(&joined, "\nASANCOL_LIVE=1", SETTINGS_MOST);
     }
     orphan_give(text);
 }

@@ -21,6 +21,7 @@
 #include "environment/orphan.h"
 #include "process/own_run.h"
 #include "process/run_connection.h"
+#include "process/showing.h"
 #include "process/threads.h"
 #include "environment/hub_word.h"
 #include "shadow/mapping.h"
@@ -156,6 +157,7 @@ static bool begin(uint64_t most_held)
     switch_checks(&process.settings);
     if (!open_stream())
         return false;
+    show_begin();
     heap_set_bound(process.settings.quarantine);
     heap_release_down_to_bound();
     heap_snapshot(most_held, stream_snapshot_room());

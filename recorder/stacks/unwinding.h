@@ -2,10 +2,10 @@
    where a function has none. On any stack: what cannot be read ends it.
 
    Called: unwind_from_call, unwind_end and unwind_from_registers by stacks.c, unwind_to by process/threads.c, and
-   unwind_to_handlers by stream/own_place.c, in the thread whose stack it is, also in a handler, with or without locks.
-   No lock here: `struct stack` is the caller's, and a rule is written so that another thread takes no half of it
-   (unwinding.c). unwinding_modules_changed by process/plain.c and interface/hooks.c, in any thread, after a library was
-   opened. */
+   unwind_to_handlers by stream/own_place.c and process/showing.c, in the thread whose stack it is, also in a handler,
+   with or without locks. No lock here: `struct stack` is the caller's, and a rule is written so that another thread
+   takes no half of it (unwinding.c). unwinding_modules_changed by process/plain.c and interface/hooks.c, in any thread,
+   after a library was opened. */
 #ifndef ASANCOL_UNWINDING_H
 #define ASANCOL_UNWINDING_H
 

@@ -71,8 +71,8 @@ static bool count(struct side_fault *entry, const struct finding *finding)
     return atomic_exchange(times, finding->count) == 0;
 }
 
-/* Adds a finding to a list, or counts it there once more. */
-static void note_in(struct list *list, const struct finding *finding)
+/* Adds a finding to a list, or counts it there once more. Answers its number, if it is the first one; or 0. */
+static uint32_t note_in(struct list *list, const struct finding *finding)
 {
     struct side_progress *progress = (struct side_progress *)(list_bytes(list) + SIDE_PROGRESS);
     struct side_fault entry = entry_for(list, finding);
@@ -82,10 +82,11 @@ static void note_in(struct list *list, const struct finding *finding)
     uint32_t number = fault_list_add(list, hash, &entry);
     if (number == 0)
         atomic_fetch_add((_Atomic uint64_t *)&progress->findings_lost, 1);
-    else if (count(fault_list_at(list, number), finding)) {
-        atomic_fetch_add((_Atomic uint64_t *)&progress->leaks, is_leak(finding));
-        atomic_fetch_add((_Atomic uint64_t *)&progress->findings, 1);
-    }
+    if (number == 0 || !count(fault_list_at(list, number), finding))
+        return 0;
+    atomic_fetch_add((_Atomic uint64_t *)&progress->leaks, is_leak(finding));
+    atomic_fetch_add((_Atomic uint64_t *)&progress->findings, 1);
+    return number;
 }
 
 /* Whether there is a stream, or was one up to its limit: what stands beside it is there. */
@@ -99,21 +100,26 @@ void finding_note(const struct finding *finding)
 {
     int before = errno;
     unsigned segment;
+    uint32_t number = 0;
     do {
         segment = atomic_load(&STREAM->segment);
         if (!wakes_side())
             break;
         struct list *list = list_newest();
         fault_begin(list_window(list));
-        note_in(list, finding);
+        number = note_in(list, finding);
         fault_end(list_window(list));
         /* The stream may have gone on in its next segment: who has read this one may have missed it. */
     } while (atomic_load(&STREAM->segment) != segment);
     if (dormant_is_there())
         stream_look_at_clock(true); /* the memory beside the stream is not the hub's yet */
-    if (is_telling() && !is_leak(finding) && wakes_side())
-        above.tell(&(struct told){.finding = finding->kind, .caller = call_site_address(finding->call_site),
-                                  .address = finding->start, .size = finding->size, .call = finding->call});
+    if ((is_telling() || (is_showing() && number != 0)) && !is_leak(finding) && wakes_side())
+        above.tell(&(struct told){.finding = finding->kind,
+                                  .caller = call_site_address(finding->call_site),
+                                  .address = finding->start,
+                                  .size = finding->size,
+                                  .call = finding->call,
+                                  .entry = number});
     errno = before;
 }
 

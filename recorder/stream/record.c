@@ -22,9 +22,10 @@ struct told record_told(enum code code, unsigned width, uint64_t address, uintpt
 }
 
 __attribute__((noinline, cold)) void record_tell(enum code code, unsigned width, uint64_t address, uintptr_t caller,
-                                                 const struct access *whole)
+                                                 const struct access *whole, uint64_t event)
 {
-    const struct told told = record_told(code, width, address, caller, whole);
+    struct told told = record_told(code, width, address, caller, whole);
+    told.event = event;
     above.tell(&told);
 }
 

@@ -41,15 +41,15 @@ void record_note_beyond(uint64_t address) OWN_NAME(record_note_beyond);
 
 /* What a report is made of: of a bad piece of an access, or of a free. */
 struct told record_told(enum code code, unsigned width, uint64_t address, uintptr_t caller, const struct access *whole);
-/* Tells the program of a bad piece of an access. */
-void record_tell(enum code code, unsigned width, uint64_t address, uintptr_t caller, const struct access *whole)
-    OWN_NAME(record_tell);
+/* Tells the program, and of an event (or 0) the run, of a bad piece of an access. */
+void record_tell(enum code code, unsigned width, uint64_t address, uintptr_t caller, const struct access *whole,
+                 uint64_t event) OWN_NAME(record_tell);
 
 static inline void tell_if_bad(enum code code, unsigned width, uint64_t address, uintptr_t caller,
-                               const struct access *whole)
+                               const struct access *whole, uint64_t event)
 {
-    if (is_telling() && shadow_is_bad(address, width))
-        record_tell(code, width, address, caller, whole);
+    if (UNLIKELY(event != 0) || (is_telling() && shadow_is_bad(address, width)))
+        record_tell(code, width, address, caller, whole, event);
 }
 
 /* A piece of an access; `whole` is null if it is all of it. */
@@ -58,6 +58,7 @@ static inline void record_piece_of(enum code code, unsigned width, uint64_t addr
 {
     struct stream *stream = &stream_page.stream;
     unsigned code_and_width = code | width << 8;
+    uint64_t event = 0;
     if (UNLIKELY(address > MEMORY_END - width))
         return; /* it can't be spelled, and would end the stream */
 #if MEMORY_VARIES
@@ -78,7 +79,7 @@ static inline void record_piece_of(enum code code, unsigned width, uint64_t addr
     }
     bool is_watched = atomic_load_explicit(&stream->is_watched, memory_order_relaxed);
     if (UNLIKELY(is_watched || is_in_frame) || (!is_in_arena(address) && UNLIKELY(!is_stated(address, width)))) {
-        record_watched_access(code_and_width, address, caller, whole);
+        event = record_watched_access(code_and_width, address, caller, whole);
     } else {
         uint64_t cursor = stream_take(&stream->cursor, CURSOR_EVENT + ACCESS_LENGTH);
         if (UNLIKELY(stream_is_unusual(cursor, ACCESS_LENGTH)))
@@ -87,7 +88,7 @@ static inline void record_piece_of(enum code code, unsigned width, uint64_t addr
             put_access(stream->bytes + (uint32_t)cursor, code_and_width, address);
         STAYS_KNOWN(cursor); /* to own_place.c */
     }
-    tell_if_bad(code, width, address, caller, whole);
+    tell_if_bad(code, width, address, caller, whole, event);
     halt_if_bad(code, width, address, caller, whole);
 }
 

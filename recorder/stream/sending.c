@@ -74,6 +74,29 @@ bool sending_is_cut(bool is_of_heap)
     return is_cut;
 }
 
+/* Gives the hub everything at hand. Answers whether that has this many events; a failure ends the stream. */
+static bool give(uint64_t events)
+{
+    const char *why = is_on() ? sending_push(false) : NULL;
+    if (why != NULL)
+        keeping_give_up(why);
+    return is_on() && !locked.is_held && locked.checked_events >= events
+           && locked.trace.sent == length_to(locked.checked);
+}
+
+bool stream_send_events(uint64_t events, int *patience_ms)
+{
+    while (is_on() && recorder_is_own_process()) {
+        bool is_free = stream_lock_at_once(), is_sent = is_free && give(events);
+        if (is_free)
+            stream_unlock();
+        if (is_sent || --*patience_ms <= 0)
+            return is_sent;
+        system_poll(NULL, 0, 1); /* another thread has not written its record yet, or the hub has much to read */
+    }
+    return false;
+}
+
 /* They do nothing, and take no time: a process that is ended from elsewhere is hardly ever in one of them. */
 void sending_try(void)
 {

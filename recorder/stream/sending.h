@@ -4,12 +4,14 @@
    sending_try by growing.c with it. The rest in any thread, also in a handler, without it: sending_is_cut by
    watched.c before a bad access or free is looked at, and stream_look_at_clock by watched.c, regions.c, findings.c
    and process/process.c after a record, take it if it is free, and wait a while for it at an exit alone;
-   stream_hang_up by process/root.c and process/halt.c, as the process ends, takes none. stream_make_way by checks of
-   calls (interface/hooks.def) takes it if it is free. */
+   stream_send_events by process/showing.c takes it again and again. stream_hang_up by process/root.c and
+   process/halt.c, as the process ends, takes none. stream_make_way by checks of calls (interface/hooks.def) takes it if
+   it is free. */
 #ifndef ASANCOL_SENDING_H
 #define ASANCOL_SENDING_H
 
 #include <stdbool.h>
+#include <stdint.h>
 
 /* A stream begins, of which nothing was sent but its header. */
 void sending_begin(void);
@@ -24,6 +26,8 @@ bool sending_is_cut(bool is_of_heap);
 void sending_try(void);
 /* After a record: gives a socket what there is, if it is time for it; or at once, but only so often. */
 void stream_look_at_clock(bool at_once);
+/* Gives the hub the stream up to this event, with this patience, which grows less. False: it does not have it yet. */
+bool stream_send_events(uint64_t events, int *patience_ms);
 /* The program is about to have another file at this number: if it is the connection's, that gets another one. */
 void stream_make_way(int descriptor);
 /* Nothing more comes of a stream that has ended: the hub need not wait for the end of the process. */

@@ -56,7 +56,7 @@ struct plan plan;
 struct shared shared;
 struct locked locked = {.trace = {.descriptor = -1}, .side = {.descriptor = -1}};
 
-_Atomic bool halt_is_on, lean_is_on, telling_is_on;
+_Atomic bool halt_is_on, lean_is_on, telling_is_on, showing_is_on;
 
 static _Atomic enum state state;
 

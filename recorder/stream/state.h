@@ -165,7 +165,7 @@ struct above {
     bool (*is_own_frame)(uintptr_t frame);
     /* Ends the recording and the process, unless another thread is doing so: then it returns. */
     void (*halt_at)(enum code code, unsigned width, uint64_t address, uintptr_t caller, struct access *whole);
-    /* Tells the program, now or once this thread has left the allocator. */
+    /* Tells the program and the run, now or once this thread has left the allocator. */
     void (*tell)(const struct told *told);
     void (*tell_waiting)(void);
 };

@@ -31,23 +31,29 @@ static struct moment moment_now(void)
     return now;
 }
 
+/* Where a record lies, or null; and the number of its event. */
+struct place {
+    unsigned char *at;
+    uint64_t event;
+};
+
 /* Takes the place of a record in a segment, with this in the index, or nothing (0). It is noted before the record is
    written: who reads the record finds it. False: the stream has gone on in its next segment. The examined state may not
    be there, so a record that says nothing has that place, and all is to be looked at again. */
-static bool reserve_with(uint32_t entry, struct moment moment, unsigned length, bool is_of_heap, unsigned char **at)
+static bool reserve_with(uint32_t entry, struct moment moment, unsigned length, bool is_of_heap, struct place *place)
 {
     uint64_t cursor = stream_take(&STREAM->cursor, CURSOR_EVENT + length);
-    *at = stream_open_place(&cursor, length, is_of_heap);
-    if (*at == NULL)
+    place->at = stream_open_place(&cursor, length, is_of_heap);
+    if (place->at == NULL)
         return true;
-    uint64_t event = ((cursor - CURSOR_ON) >> 32) + 1; /* only now is it known to be this one */
+    place->event = ((cursor - CURSOR_ON) >> 32) + 1; /* only now is it known to be this one */
     if (window_of((uint32_t)cursor) != moment.window || atomic_load(&STREAM->segment) != moment.segment) {
-        holes_fill(*at, length);
+        holes_fill(place->at, length);
         return false;
     }
-    side_note_needed(event);
+    side_note_needed(place->event);
     if (entry != 0)
-        fault_note(moment.window, entry, event);
+        fault_note(moment.window, entry, place->event);
     return true;
 }
 
@@ -89,16 +95,16 @@ static bool put_free_in_time(unsigned char *at, uint64_t address)
     return put_code_in_time(at, CODE_FREE);
 }
 
-/* Records an access, or a free, which has no width. `at` is its place, or null. False: look again. */
+/* Records an access, or a free, which has no width. False: look again. */
 static bool record_at(uint32_t entry, struct moment moment, unsigned code_and_width, uint64_t address, bool is_of_heap,
-                      unsigned char **at)
+                      struct place *place)
 {
     bool is_free = code_and_width == CODE_FREE;
-    if (!reserve_with(entry, moment, is_free ? FREE_LENGTH : ACCESS_LENGTH, is_of_heap, at))
+    if (!reserve_with(entry, moment, is_free ? FREE_LENGTH : ACCESS_LENGTH, is_of_heap, place))
         return false;
-    if (*at == NULL)
+    if (place->at == NULL)
         return true;
-    return is_free ? put_free_in_time(*at, address) : put_access_in_time(*at, code_and_width, address);
+    return is_free ? put_free_in_time(place->at, address) : put_access_in_time(place->at, code_and_width, address);
 }
 
 static enum holding holding_now(void)
@@ -112,7 +118,7 @@ static enum holding holding_now(void)
    the allocator locked: so no other thread changes or states a block between the two. No handler comes, which could
    leave by a jump and leave the lock taken. If nothing is bad any more, nothing is recorded. */
 static bool record_stated(uint32_t entry, struct moment moment, unsigned code_and_width, uint64_t address,
-                          struct difference *difference, unsigned char **at)
+                          struct difference *difference, struct place *place)
 {
     struct disturbance before;
     bool is_free = code_and_width == CODE_FREE;
@@ -122,11 +128,11 @@ static bool record_stated(uint32_t entry, struct moment moment, unsigned code_an
     enum stating stating = is_free ? above.state_free(address)
                                    : above.state_access(address, code_and_width >> 8, holding);
     bool is_done = stating != STATING_AGAIN;
-    *at = NULL;
+    place->at = NULL;
     if (holding == HEAP_LOCKED && stating != STATING_NOT_NEEDED && is_in_arena(address))
         *difference = above.find_difference(address);
     if (stating == STATING_DONE || stating == STATING_FRAME)
-        is_done = record_at(entry, moment, code_and_width, address, holding != HEAP_AT_LOCK, at);
+        is_done = record_at(entry, moment, code_and_width, address, holding != HEAP_AT_LOCK, place);
     if (stating == STATING_FRAME)
         record_here(CODE_UNPOISON, address / GRANULE * GRANULE, 2 * GRANULE);
     above.unlock_heap();
@@ -169,12 +175,12 @@ static void state_around(uint64_t address, unsigned width, bool is_in_frame)
         stated_bring_up(address, width);
 }
 
-void record_watched_access(unsigned code_and_width, uint64_t address, uintptr_t caller, struct access *whole)
+uint64_t record_watched_access(unsigned code_and_width, uint64_t address, uintptr_t caller, struct access *whole)
 {
     unsigned width = code_and_width >> 8;
     struct access itself;
     struct difference difference = {0};
-    unsigned char *at;
+    struct place place = {0};
     bool is_bad, is_done, is_of_block = is_lean() && is_in_arena(address);
     bool is_in_frame = !is_of_block && is_frame_in_block(address, width);
     if (shadow_is_bad(address, width))
@@ -183,7 +189,7 @@ void record_watched_access(unsigned code_and_width, uint64_t address, uintptr_t 
         struct moment now = moment_now();
         is_bad = shadow_is_bad(address, width);
         if (is_of_block && !is_bad)
-            return; /* it is left out */
+            return 0; /* it is left out */
         is_bad = is_bad && has_side();
         /* What comes next may be refused by a filter of system calls, and end the process. */
         if (is_bad) {
@@ -195,20 +201,21 @@ void record_watched_access(unsigned code_and_width, uint64_t address, uintptr_t 
         }
         state_around(address, width, is_in_frame);
         uint32_t entry = is_bad ? fault_of(now.window, whole, width, address) : 0;
-        is_done = is_of_block ? record_stated(entry, now, code_and_width, address, &difference, &at)
-                              : record_at(entry, now, code_and_width, address, false, &at);
+        is_done = is_of_block ? record_stated(entry, now, code_and_width, address, &difference, &place)
+                              : record_at(entry, now, code_and_width, address, false, &place);
         if (is_bad)
             fault_end(now.window);
     } while (!is_done);
     if (is_bad)
         note_difference(&difference, whole);
-    if (at == NULL)
-        return;
+    if (place.at == NULL)
+        return 0;
     if (is_bad)
         whole->is_noted = true;
     if (is_in_frame)
         stated_hide_frame(address);
     stream_look_at_clock(is_bad);
+    return is_bad && is_showing() ? place.event : 0;
 }
 
 void record_bad_free(uint64_t address, uintptr_t caller, const char *call)
@@ -221,7 +228,7 @@ void record_bad_free(uint64_t address, uintptr_t caller, const char *call)
         return;
     }
     struct difference difference = {0};
-    unsigned char *at;
+    struct place place = {0};
     bool is_noted, is_done;
     stay_connected(true);
     do {
@@ -230,14 +237,18 @@ void record_bad_free(uint64_t address, uintptr_t caller, const char *call)
         if (is_noted)
             fault_begin(now.window);
         uint32_t entry = is_noted ? fault_of(now.window, &access, 0, address) : 0;
-        is_done = is_lean() ? record_stated(entry, now, CODE_FREE, address, &difference, &at)
-                            : record_at(entry, now, CODE_FREE, address, true, &at);
+        is_done = is_lean() ? record_stated(entry, now, CODE_FREE, address, &difference, &place)
+                            : record_at(entry, now, CODE_FREE, address, true, &place);
         if (is_noted)
             fault_end(now.window);
     } while (!is_done);
     note_difference(&difference, &access);
-    if (at != NULL)
+    if (place.at != NULL)
         stream_look_at_clock(true);
-    if (is_telling())
-        above.tell(&(struct told){.code = CODE_FREE, .caller = caller, .address = address, .call = call});
+    if (is_telling() || is_showing())
+        above.tell(&(struct told){.code = CODE_FREE,
+                                  .caller = caller,
+                                  .address = address,
+                                  .call = call,
+                                  .event = place.at != NULL ? place.event : 0});
 }

@@ -12,8 +12,9 @@
 #include "base/platform.h"
 #include "stream/access.h"
 
-/* An access, or a piece of `whole`, to a stream that is watched, or where that does not state what the shadow says. */
-void record_watched_access(unsigned code_and_width, uint64_t address, uintptr_t caller, struct access *whole)
+/* An access, or a piece of `whole`, to a stream that is watched, or where that does not state what the shadow says.
+   Answers the number of its event, if that is a report that may be shown now; or 0. */
+uint64_t record_watched_access(unsigned code_and_width, uint64_t address, uintptr_t caller, struct access *whole)
     OWN_NAME(record_watched_access);
 /* By this function of the library. */
 void record_bad_free(uint64_t address, uintptr_t caller, const char *call);

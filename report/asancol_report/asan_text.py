@@ -75,6 +75,9 @@ class AsanText(Text):
         counted = [finding for finding in findings if finding.counts]
         self.write(self.findings_text(sorted(counted, key=lambda it: it.order), results))
 
+    def alone(self, finding: Finding, results: Results) -> Iterator[str]:
+        return self.findings_text([finding], results)
+
     def last_line(self, first: Iterable[Finding]) -> Iterator[str]:
         return iter(())
 

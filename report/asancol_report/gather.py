@@ -18,6 +18,7 @@ from .functions import is_standard
 from .leaks import at_one_place, Leaks, Sum, SUMMARY, YES
 from .modules import CodeAddress, Modules
 from .results import Process, Results
+from .running import in_memory
 from .side import (
     ENDING_SIGNAL, Fault, FINDING_INDIRECT_LEAK, FINDING_LEAK, Last, Side, Thread as SideThread, VARIABLE_DYNAMIC,
     VARIABLE_FORGOTTEN, VARIABLE_NONE, VARIABLE_STACK,
@@ -26,7 +27,7 @@ from .sources import Sources
 from .stacks import OF_RECORDER
 from .symbols import Symbols
 from .variables import declaration_of, variables_of
-from .verdicts import Line, Verdicts
+from .verdicts import Group, Line, Verdicts
 
 NO_PLACE = "its place was not recorded"
 NO_ALLOCATION = "before the trace began"
@@ -121,15 +122,7 @@ class Gatherer:
         self.take_rules(side.suppressions() if side else [])
         lines = Verdicts(verdicts, side.look_up if side else lambda event: (0, False))
         for group in lines.groups.values():
-            fault = side.fault(group.fault) if side and group.fault else None
-            first = Tally(0, 0, process, pid, group.first.event, segment)
-            finding = finding_of(group.first, fault)
-            sighting = self.sight(finding, group.count, fault, self.places_of(side, fault), first)
-            if side and fault and sighting.first is first:
-                sighting.finding.threads, created = threads_of(side, *fault.threads)
-                sighting.created = [self.calls(side, it) for it in created]
-            if self.modules.is_full():
-                self.symbols.look_up()
+            self.take_group(side, group, Tally(0, 0, process, pid, group.first.event, segment))
         found = self.take_findings(process, pid, side, segment) if side else 0
         if side is not None and (self.results.has_addresses or self.is_each_kept):
             self.results.bases[self.run, process] = side.bases
@@ -145,24 +138,61 @@ class Gatherer:
         if lines.strange:
             self.results.notes[f"process {pid}: {lines.strange} lines of asancol were not understood"] = None
 
+    def alone(self, side: Side, first: Tally, line: bytes, number: int) -> List[Finding]:
+        """Returns the finding of a line of asancol, or by the recorder, that has this number; none, if it can't be
+        read. It is not taken in."""
+        self.take_rules(side.suppressions())
+        kept, self.sightings = self.sightings, {}
+        try:
+            with in_memory(line) as text:
+                groups = list(Verdicts(text.fileno(), side.look_up).groups.values()) if line else []
+            for group in groups:
+                self.take_group(side, group, first._replace(event=group.first.event))
+            fault = side.fault(number) if not line else None
+            if fault is not None and fault.kind:
+                self.take_finding(side, fault, first._replace(after=fault.after, number=1))
+            self.symbols.stay()
+            self.symbols.look_up()
+            found = [self.complete(sighting) for sighting in self.sightings.values()]
+            for finding, sighting in zip(found, self.sightings.values()):
+                finding.runs = {self.run: sighting.first}
+        finally:
+            self.sightings = kept
+        if self.results.has_addresses:
+            self.results.bases[self.run, first.process] = {it.path: it.base for it in side.maps}
+        return found
+
+    def take_group(self, side: Optional[Side], group: Group, first: Tally) -> None:
+        """Takes in the lines of one fault."""
+        fault = side.fault(group.fault) if side and group.fault else None
+        finding = finding_of(group.first, fault)
+        sighting = self.sight(finding, group.count, fault, self.places_of(side, fault), first)
+        if side and fault and sighting.first is first:
+            sighting.finding.threads, created = threads_of(side, *fault.threads)
+            sighting.created = [self.calls(side, it) for it in created]
+        if self.modules.is_full():
+            self.symbols.look_up()
+
     def take_findings(self, process: int, pid: int, side: Side, segment: int) -> int:
         """Takes in what the recorder of a process has found by itself. Returns how many places there are."""
         count = 0
         for count, fault in enumerate(side.findings(), 1):
             if fault.kind in LEAK_KINDS and self.leaks != YES:
                 self.sum_up(process, side, fault)
-                continue
-            first = Tally(0, 0, process, pid, 0, segment, fault.after, count)
-            finding, times = finding_by_recorder(fault), times_of(fault)
-            sighting = self.sight(finding, times, fault, self.places_of(side, fault), first)
-            if fault.kind in LEAK_KINDS:
-                sighting.lost = at_one_place([sighting.lost, lost_at(fault)])
-            if sighting.first is first:
-                sighting.finding.threads, created = threads_of(side, *fault.threads)
-                sighting.created = [self.calls(side, it) for it in created]
-            if self.modules.is_full():
-                self.symbols.look_up()
+            else:
+                self.take_finding(side, fault, Tally(0, 0, process, pid, 0, segment, fault.after, count))
         return count
+
+    def take_finding(self, side: Side, fault: Fault, first: Tally) -> None:
+        finding, times = finding_by_recorder(fault), times_of(fault)
+        sighting = self.sight(finding, times, fault, self.places_of(side, fault), first)
+        if fault.kind in LEAK_KINDS:
+            sighting.lost = at_one_place([sighting.lost, lost_at(fault)])
+        if sighting.first is first:
+            sighting.finding.threads, created = threads_of(side, *fault.threads)
+            sighting.created = [self.calls(side, it) for it in created]
+        if self.modules.is_full():
+            self.symbols.look_up()
 
     def sum_up(self, process: int, side: Side, fault: Fault) -> None:
         """Adds a leak to the sum. Its symbols are looked up only if somebody may say that it does not count."""

@@ -10,6 +10,7 @@ from contextlib import suppress
 from typing import Callable, Dict, List, Optional, Set
 
 from .errors import Broken, reason
+from .findings import Finding, Tally
 from .gather import Gatherer
 from .json_lines import Commands, end_run, number_of, process_of, run_of, take_notes, text_of, VERSION
 from .results import Process, Results, Run
@@ -34,14 +35,19 @@ def without_reports(process: Process) -> Process:
     return process._replace(is_complete=False, is_abrupt=False, why="its reports did not arrive")
 
 
+# Takes a finding, the file to which its process prints it, and the connection on which that waits for the text.
+Show = Callable[[Finding, str, int], None]
+
+
 class Hub:
     """The run whose packets come on a socket."""
 
     def __init__(self, results: Results, new_gatherer: Callable[[int], Gatherer],
-                 come: Callable[[Gatherer, Process], None]) -> None:
+                 come: Callable[[Gatherer, Process], None], show: Optional[Show] = None) -> None:
         self.results = results
         self.new_gatherer = new_gatherer
         self.come = come  # is called when a process with reports was taken in
+        self.show = show  # and this when one that goes on waits for a report
         self.gatherer: Optional[Gatherer] = None
         self.number = 0
         self.lost: Set[int] = set()  # processes whose reports did not arrive
@@ -86,6 +92,8 @@ class Hub:
             self.begin(entry)
         elif kind == "process":
             self.take_process(entry, descriptors)
+        elif kind == "show":
+            self.take_question(entry, descriptors)
         elif kind == "end":
             self.end(entry)
             take_notes(entry, self.results)
@@ -143,6 +151,25 @@ class Hub:
             if side is not None:
                 side.close()
         self.come(self.gatherer, process)
+
+    def take_question(self, entry: Dict[str, object], descriptors: List[int]) -> None:
+        """Takes a report that a process waits for. The data of its process come later, with all of its reports."""
+        number = number_of(entry.get("n"))
+        files = min(number_of(entry.get("files")), len(descriptors) - 2)
+        if files < 0 or self.gatherer is None or self.show is None or number >= MAX_PROCESSES:
+            return
+        for each in descriptors[1:1 + files]:
+            self.gatherer.modules.give(each)
+        side = self.side_of("", descriptors[:1])
+        if side is None:
+            return
+        first = Tally(1, 1, number, number_of(entry.get("pid")), 0, number_of(entry.get("segment")) or 1)
+        line, fault = text_of(entry.get("line")), number_of(entry.get("entry"))
+        try:
+            for finding in self.gatherer.alone(side, first, line.encode(), fault):
+                self.show(finding, text_of(entry.get("file")), descriptors[-1])
+        finally:
+            side.close()
 
     def known(self, process: Process) -> Process:
         """Returns a process with what else is known of it."""

@@ -27,10 +27,11 @@ TYPE_CHECKING = False
 if TYPE_CHECKING:
     from .baseline import Baseline
     from .hub import Files
+    from .live import Live
     from .log_path import LogPath
 
 # Forms of the text.
-ASAN, GCC, GITHUB = "asan", "gcc", "github"
+OWN, ASAN, GCC, GITHUB = "asancol", "asan", "gcc", "github"
 
 Writer = Callable[[Results, TextIO, Options, Sources], None]
 
@@ -62,8 +63,9 @@ class Report:
         self.baseline: Optional[Baseline] = None
         self.has_failed = False
         self.unread: List[Tuple[str, str]] = []  # files that could not be read to their end, and why
-        self.text = text_of(options, self.root)
+        self.text = text_of(options, self.root, has_colors(options))
         self.log = self.log_path()
+        self.live: Optional[Live] = None
 
     def log_path(self) -> Optional[LogPath]:
         prefix = self.options.value("--log-path")
@@ -81,7 +83,7 @@ class Report:
 
     @property
     def is_live(self) -> bool:
-        return self.options.switches["--live"] and self.options.has_text and not self.is_log_alone
+        return self.options.value("--live") == "exit" and self.options.has_text and not self.is_log_alone
 
     def fail(self, error: object) -> None:
         say(error)
@@ -95,7 +97,9 @@ class Report:
         for path, why in self.unread:
             if all(run.cut != why for run in self.results.runs):
                 self.results.add_cut(path, why)
+        self.symbols.end_stay()
         self.judge()
+        self.take_shown()
         if self.log is not None:
             self.log.take_others()
         self.results.unused = self.suppressions.unused()
@@ -146,7 +150,7 @@ class Report:
         switches, files = self.options.switches, self.options.files
         if switches["--run"]:
             from .hub import Hub
-            Hub(self.results, self.new_gatherer, self.come).read(0)
+            Hub(self.results, self.new_gatherer, self.come, self.show).read(0)
             self.read_nested(self.options.value("--nested"))
         if switches["--trace"]:
             self.check_traces(files)
@@ -257,6 +261,21 @@ class Report:
         self.text.new_places([it for it in new if it.place not in self.text.shown], self.results)
         self.flush()
 
+    def show(self, finding: Finding, file: str, connection: int) -> None:
+        """Gives a process that goes on its report, which it prints to this file."""
+        is_text = self.options.has_text and self.options.value("--format") in (OWN, ASAN)
+        if not is_text or self.is_log_alone or not self.counts(finding):
+            return
+        if self.live is None:
+            from .live import Live
+            self.live = Live(self.text_for)
+        self.live.show(finding, file, connection, self.text.most_alone)
+
+    def text_for(self, finding: Finding, file: str) -> str:
+        """Returns the text of a finding for a file: with colors, if it is ours."""
+        text = self.text if file == own_file() else text_of(self.options, self.root, False)
+        return "".join(line + "\n" for line in text.alone(finding, self.results))
+
     def print_halted(self, findings: List[Finding], asks: Optional[int]) -> None:
         """Prints the reports of a process that has halted, which does that itself if it waits for the words."""
         counted = [finding for finding in findings if self.counts(finding)]
@@ -276,6 +295,13 @@ class Report:
         text = AsanText(sys.stdout, Colors(False), self.root, False)
         lines = text.findings_text(sorted(findings, key=lambda it: it.order), self.results)
         return "".join(f"{line}\n" for line in lines)
+
+    def take_shown(self) -> None:
+        """Takes in what processes have printed where this prints."""
+        places = self.live.places(own_file()) if self.live is not None else []
+        for place in places:
+            self.text.shown[place] = self.text.shown.get(place, 0) + 1
+        self.text.places += len(places)
 
     def judge(self) -> None:
         self.results.place_crashes(self.sources)
@@ -354,7 +380,16 @@ def writer_of(name: str) -> Writer:
     return writer
 
 
-def text_of(options: Options, root: str) -> Text:
+def own_file() -> str:
+    """Returns the file to which this prints, as processes name theirs."""
+    try:
+        status = os.fstat(1)
+    except OSError:
+        return ""
+    return f"{status.st_dev}:{status.st_ino}"
+
+
+def text_of(options: Options, root: str, is_colored: bool) -> Text:
     """Returns what writes the text."""
     switches = options.switches
     whole = [path for name, path in options.outputs if name in ("--json", "--html")]
@@ -362,7 +397,7 @@ def text_of(options: Options, root: str) -> Text:
     if form == ASAN:
         from .asan_text import AsanText
         return AsanText(sys.stdout, Colors(False), root, False)
-    text = Text(sys.stdout, Colors(has_colors(options)), root, switches["--gen-suppressions"],
+    text = Text(sys.stdout, Colors(is_colored), root, switches["--gen-suppressions"],
                 switches["--full-stacks"], switches["--shadow"], " and ".join(whole))
     if form == GCC:
         from .gcc_text import GccText

@@ -17,7 +17,7 @@ Output files:
 Text:
   --format FORM        reports as asancol, asan, gcc or github (asancol)
   --log-path PREFIX    write the text of asan to PREFIX.PID, too
-  --live               print the first report of each place when it comes
+  --live HOW           reports come at: access, exit or end (access)
   --crashes            count crashes that a parent waited for, too
   --source-root DIR    show files under DIR by their paths from there
   --color WHEN         colors: auto, always or never (auto)
@@ -59,12 +59,14 @@ SHORT = {
 }
 WORDS = {
     "--format": ("asancol", "asan", "gcc", "github"),
+    "--live": ("access", "exit", "end"),
     "--color": ("auto", "always", "never"),
     "--leaks": ("yes", "summary", "no"),
     "--unchecked": ("list", "list-all", "no", "error"),
 }
 DEFAULTS = {
     "--format": "asancol",
+    "--live": "access",
     "--color": "auto",
     "--leaks": "yes",
     "--unchecked": "list",
@@ -85,6 +87,7 @@ WITH_VALUE = (
     "--category",
     "--format",
     "--log-path",
+    "--live",
     "--source-root",
     "--color",
     "--leaks",
@@ -97,7 +100,6 @@ WITH_VALUE = (
     "--nested",
 )
 SWITCHES = (
-    "--live",
     "--crashes",
     "--full-stacks",
     "--all-places",

@@ -9,6 +9,8 @@ from __future__ import annotations
 import json
 import os
 import re
+import select
+from contextlib import suppress
 from typing import Dict, Iterator, List, Optional, Tuple
 
 from .modules import Module, Modules, Name
@@ -143,6 +145,70 @@ class Job:
         return of_json(text) if self.style == "JSON" else of_lines(text)
 
 
+class Resident:
+    """An llvm-symbolizer that stays, and knows what it has read: for one report after another. It reads files that this
+    process holds for it, each for as long as it is there."""
+
+    MAX_FILES = 64
+    # Addresses of a request, which a pipe has room for.
+    MAX_AT_ONCE = 64
+    # Seconds that an answer may take.
+    PATIENCE = 60
+
+    def __init__(self, tool: str) -> None:
+        self.files: Dict[Tuple[str, Tuple[int, int], int], int] = {}
+        (theirs, self.requests), (self.answers, ours) = os.pipe(), os.pipe()
+        words = [tool, "--inlining", "--demangle", "--functions=linkage", "--output-style=JSON"]
+        try:
+            self.child = start(words, theirs, ours, is_silent=True)
+        finally:
+            os.close(theirs)
+            os.close(ours)
+
+    def file_of(self, module: Module) -> str:
+        """Returns a path of the module's file that stands for no other one; none, if there are too many."""
+        key = (module.path, module.identity, module.changed_at)
+        if key not in self.files:
+            if len(self.files) == self.MAX_FILES:
+                return ""
+            self.files[key] = os.dup(module.descriptor)
+        return f"/proc/{os.getpid()}/fd/{self.files[key]}"
+
+    def ask(self, module: Module) -> Optional[Dict[int, List[Name]]]:
+        """Looks up the wanted addresses of a module. None, if that failed."""
+        path, wanted = self.file_of(module), list(module.wanted)
+        if not path:
+            return None
+        found: Dict[int, List[Name]] = {}
+        for first in range(0, len(wanted), self.MAX_AT_ONCE):
+            some = wanted[first:first + self.MAX_AT_ONCE]
+            try:
+                os.write(self.requests, "".join(f'CODE "{path}" 0x{address:x}\n' for address in some).encode())
+                found.update(of_json(self.read_lines(len(some))))
+            except OSError:
+                return None
+        return found
+
+    def read_lines(self, count: int) -> str:
+        """Reads this number of lines that are not empty. OSError, if they do not come."""
+        text = b""
+        poll = select.poll()
+        poll.register(self.answers, select.POLLIN)
+        while sum(map(bool, text.split(b"\n")[:-1])) < count:
+            piece = os.read(self.answers, 1 << 16) if poll.poll(self.PATIENCE * 1000) else b""
+            if not piece:
+                raise OSError
+            text += piece
+        return text.decode("utf-8", "surrogateescape")
+
+    def close(self) -> None:
+        os.close(self.requests)
+        os.close(self.answers)
+        for descriptor in self.files.values():
+            os.close(descriptor)
+        wait(self.child, 1)
+
+
 class Symbols:
     """Looks up the places that modules want."""
 
@@ -153,9 +219,38 @@ class Symbols:
         self.notes: Dict[str, None] = {}
         self.has_answer = False
         self.was_asked = False
+        self.resident: Optional[Resident] = None
+        self.can_stay = self.style == "JSON"
+
+    def stay(self) -> None:
+        """Keeps a symbolizer from now on, if it is one that can stay."""
+        if self.resident is None and self.tool and self.can_stay:
+            with suppress(OSError):
+                self.resident = Resident(self.tool)
+
+    def end_stay(self) -> None:
+        if self.resident is not None:
+            self.resident.close()
+        self.resident, self.can_stay = None, False
+
+    def ask_resident(self, wanted: List[Module]) -> None:
+        """Looks up the addresses that the resident one knows, and leaves the rest."""
+        for module in wanted:
+            names = self.resident.ask(module) if self.resident and module.is_same_still() else None
+            if names is None:
+                self.end_stay()
+                return
+            if not any(names.values()):
+                continue
+            for address in module.wanted:
+                module.names[address] = names.get(address, [])
+            self.was_asked = self.has_answer = True
+            module.wanted.clear()
 
     def look_up(self) -> None:
         """Looks up all that is wanted, and lets the modules go."""
+        if self.resident is not None:
+            self.ask_resident(self.modules.wanted())
         wanted = self.modules.wanted()
         if wanted and self.tool is None:
             self.notes[f"{self.missing}: places have no lines"] = None

@@ -37,6 +37,7 @@ class Text:
     """Writes a report, all at once or finding by finding."""
 
     for_leaks = "--leaks=yes"
+    most_alone = MAX_PLACES  # that are printed as they come up
 
     def __init__(self, out: TextIO, colors: Colors, root: str, has_suppressions: bool, has_all_frames: bool = False,
                  has_shadow: bool = False, elsewhere: str = "") -> None:
@@ -64,15 +65,33 @@ class Text:
         if not is_live:
             self.all_places(rest, results)
         for finding in before[:MAX_PLACES]:
-            if finding.count > self.shown.get(finding.place, 1):
-                self.write(iter([self.count_line(finding)]))
-        self.write(self.left_out(sum(map(self.is_entry, rest))))
+            self.write(self.rest_of(finding))
+        self.write(self.left_out(self.places if not is_live else sum(map(self.is_entry, rest))))
         self.write(self.summary(results))
+
+    def rest_of(self, finding: Finding) -> Iterator[str]:
+        """The rest about a finding that was printed as it came up. Another one may have it among its lines."""
+        if finding.follows is not None and finding.shares_block:
+            return
+        others = list(self.also(finding))
+        if others or finding.count > self.shown.get(finding.place, 1):
+            yield self.count_line(finding)
+            yield from others
 
     def all_places(self, findings: Iterable[Finding], results: Results) -> None:
         for finding in findings:
             if self.is_entry(finding):
                 self.place(finding, seen=seen_text(results, finding))
+
+    def alone(self, finding: Finding, _: Results) -> Iterator[str]:
+        """A finding that has just come up. If it may follow from an earlier one, it is a line."""
+        head = finding.follows
+        if head is None or self.is_entry(finding):
+            return self.finding(finding, times=False)
+        if finding.shares_block:
+            return iter([f"asancol: also at {self.again(finding)}"])
+        return iter([f"asancol: {printable(finding.title)} at {self.place_of(finding.top)}; it may follow from the "
+                     f"report at {self.place_of(head.top)}"])
 
     def is_entry(self, finding: Finding) -> bool:
         """Whether a finding is more than a line under another one, or part of a count."""
@@ -145,21 +164,25 @@ class Text:
         """Where else there were reports on the same block or variable, each line of source once, and how many others
         may follow from this one."""
         named = {line_of(finding)}
-        count = 0 if self.has_all_places else len(finding.later)
+        count = 0 if self.has_all_places else sum(other.place not in self.shown for other in finding.later)
         for other in finding.also:
-            if line_of(other) in named:
+            if line_of(other) in named or other.count <= self.shown.get(other.place, 0):
                 continue
             if len(named) > MAX_ALSO and not self.has_all_places:
                 count += 1
                 continue
             named.add(line_of(other))
             times = f" ({other.count} times)" if other.count > 1 else ""
-            where = f", {printable(other.where_again)}" if other.block else ""
-            yield f"  also at {self.place_of(other.top)}: {printable(other.what)}{where}{times}"
+            yield f"  also at {self.again(other)}{times}"
         if count:
             shows = "it" if count == 1 else "them"
             yield (f"  {plural(count, 'later report')} of this process may follow from this; --all-places shows "
                    f"{shows}")
+
+    def again(self, finding: Finding) -> str:
+        """Returns the words for one more report on a block or variable."""
+        where = f", {printable(finding.where_again)}" if finding.block else ""
+        return f"{self.place_of(finding.top)}: {printable(finding.what)}{where}"
 
     def frame_file(self, finding: Finding) -> str:
         """Returns where the function is whose frame has the variable."""

@@ -139,7 +139,7 @@ def a_consequence_stands_by_itself(folder: str) -> None:
 @report_test
 def live_reports_are_in_order(folder: str) -> None:
     program = build(folder)
-    feed = Feed(folder, "--live", "--source-root", ".")
+    feed = Feed(folder, "--live=exit", "--source-root", ".")
     feed.begin()
     feed.process(0, LINES + END, parts_of(program))
     ran = feed.end()

@@ -388,7 +388,7 @@ def run_gets_signals(folder: str) -> None:
     numbers = (signal.SIGINT, signal.SIGTERM, signal.SIGHUP, signal.SIGQUIT)
     everything = sum(1 << number - 1 for number in numbers)
     program = build(folder)
-    for argv in (["--live"], ["--json", "out.jsonl"]):
+    for argv in (["--live=exit"], ["--json", "out.jsonl"]):
         feed = Feed(folder, *argv)
         wait_until(functools.partial(ignores, feed.child.pid, everything), "that signals are ignored")
         for turn in range(30):
@@ -432,7 +432,7 @@ def run_has_nested(folder: str) -> None:
 def live(folder: str) -> None:
     program = build(folder)
     parts = of_program(program, [freed_block(program)], [0, 0, 0, 0, 1])
-    feed = Feed(folder, "--live", "--source-root", ".")
+    feed = Feed(folder, "--live=exit", "--source-root", ".")
     feed.begin()
     feed.process(0, FREED + END, parts)
     assert feed.child.stdout is not None
@@ -454,7 +454,7 @@ def halted_process_is_printed_at_once(folder: str) -> None:
     program = build(folder)
     parts = of_program(program, [freed_block(program)], [0, 0, 0, 0, 1], ending=SIGNAL, signal=6)
     halted: Dict[str, Any] = {"signal": 6, "fate": "no-close", "why": "ended by SIGABRT", "halted": True}
-    for word in ("--live", "--no-machines", "--format=asan"):
+    for word in ("--live=exit", "--no-machines", "--format=asan"):
         feed = Feed(folder, word, "--source-root", ".", "--json", "a.jsonl")
         feed.begin()
         for number in (0, 1):
@@ -479,7 +479,7 @@ def halted_process_gets_its_words(folder: str) -> None:
     parts = of_program(program, [freed_block(program)], [0, 0, 0, 0, 1])
     with open(f"{folder}/rules", "w", encoding="utf-8") as file:
         file.write("at:heap-use-after-free:use\n")
-    for words in ((), ("--suppressions", "rules"), ("--live",)):
+    for words in ((), ("--suppressions", "rules"), ("--live=exit",)):
         feed = Feed(folder, *words, "--source-root", ".")
         feed.begin()
         texts = [feed.asking(number, FREED + END, parts, halted=True) for number in (0, 1)]

@@ -270,11 +270,11 @@ def fifty_places_are_shown(folder: str) -> None:
     expect_in(ran.out, "asancol: 10 more places are in a.jsonl\n")
     expect_in(report(folder, "--trace", "a.trace").out,
               "asancol: 10 more places are not shown: --json FILE and --html FILE have them all\n")
-    ran = report(folder, "a.jsonl", "--html", "a.html", "--live")
+    ran = report(folder, "a.jsonl", "--html", "a.html", "--live=exit")
     expect_in(ran.out, "asancol: 10 more places are in a.html\n")
     with open(f"{folder}/a.html", encoding="utf-8") as file:
         expect(file.read().count("<details class=\"card"), 60, "on the page")
-    feed = Feed(folder, "--live")
+    feed = Feed(folder, "--live=exit")
     feed.begin()
     feed.process(0, lines + END, side(faults=faults, index=range(1, 61)))
     ran = feed.end()

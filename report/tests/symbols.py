@@ -43,7 +43,7 @@ def program_without_build_id(folder: str) -> None:
 @report_test
 def program_is_gone_at_the_end(folder: str) -> None:
     """A program that is built anew after each run has its lines all the same."""
-    feed = Feed(folder, "--source-root", ".", "--live")
+    feed = Feed(folder, "--source-root", ".", "--live=exit")
     feed.begin()
     program = build(folder)
     feed.process(0, FREED + END, of_program(program, [freed_block(program)], [0, 0, 0, 0, 1]))

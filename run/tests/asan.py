@@ -224,7 +224,7 @@ def check_halts(suite: Suite, folder: str) -> None:
     def texts(ran: Ran, status: int = 1) -> Tuple[int, int]:
         expect(ran.status, status, ran.err)
         return ran.err.count(HALTED), ran.err.count("ERROR: ")
-    for word in ("--wait=5", "--format=asan", "--live", "-q"):
+    for word in ("--wait=5", "--format=asan", "--live=exit", "-q"):
         for halt in ("1", "2"):
             ran = suite.run(word, "--", *past.split(), ASANCOL_HALT=halt, **halts)
             expect(texts(ran, 99), (1, 1), ran.err)
@@ -330,7 +330,7 @@ def check_log_path(suite: Suite, folder: str) -> None:
             given = {"ASAN_OPTIONS": f"log_path={folder}/log:halt_on_error={halts}", "ASANCOL_REPORT": REPORT}
             status = 1 if halts == "1" else -signal.SIGSEGV if way == "crashes" else 99
             check(way, text, suite.run("--", suite.program, way, **given), True, status)
-            check(way, text, suite.run("--live", "--", suite.program, way, **given), True, status)
+            check(way, text, suite.run("--live=exit", "--", suite.program, way, **given), True, status)
             check(way, text, suite.run("-q", "--", suite.program, way, **given), False, status)
             check(way, text, suite.run_argv([suite.program, way], ASANCOL_RUN=RUN, **given), False, status)
     aborted = suite.run("--", suite.program, "aborts", ASAN_OPTIONS=f"log_path={folder}/log", ASANCOL_REPORT=REPORT)
@@ -351,7 +351,7 @@ def check_no_log(suite: Suite, folder: str) -> None:
     given = {"ASAN_OPTIONS": f"log_path={path}", "ASANCOL_REPORT": REPORT}
     halts = {**given, "ASAN_OPTIONS": f"log_path={path}:halt_on_error=1"}
     said = "File name too long; its reports are printed instead\n"
-    for argv in ["--"], ["-q", "--"], ["--live", "--"]:
+    for argv in ["--"], ["-q", "--"], ["--live=exit", "--"]:
         expect_ran(suite.run(*argv, suite.program, "past", **given), 99, said, HALTED, "in store_past ")
     expect_ran(suite.run("--", suite.program, "past", **halts), 1, said, HALTED)
     expect_ran(suite.run_argv([suite.program, "past"], ASANCOL_RUN=RUN, **given), 99, said, HALTED)

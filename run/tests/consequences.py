@@ -77,7 +77,7 @@ def check_forms(suite: Suite, folder: str, compiler: str) -> None:
     program = make(folder, compiler)
 
     def text_of(name: str, *argv: str) -> str:
-        return suite.run(*argv, "--", program, name, ASANCOL_REPORT=REPORT).err
+        return suite.run("--live=end", *argv, "--", program, name, ASANCOL_REPORT=REPORT).err
 
     for name, count in (("list_freed_and_read", 1), ("pointer_from_freed", 1), ("three_bugs", 3)):
         text = text_of(name, "--sarif", f"{folder}/all.sarif", "--codequality", f"{folder}/quality.json")

@@ -4,7 +4,7 @@
 FAKE says what it does: a status to end with; `dies`, at once; `hangs-up`: ends with 0 and reads nothing; `stays`: reads
 nothing and does not end; `killed`: by SIGKILL, after the first packet. Without it the status is 1 if there is a report,
 3 if a process was incomplete, and else 0. Each line of FAKE_PACKETS has the arguments of the command line, or a packet
-and in it what came with it.
+and in it what came with it. A process that waits for a report is answered with nothing, and no line.
 """
 
 import array
@@ -63,6 +63,10 @@ def main() -> int:
             if not packet:
                 break
             message = json.loads(packet)
+            if message["type"] == "show":
+                for each in descriptors:
+                    os.close(each)
+                continue
             add_descriptors(message, descriptors)
             print(json.dumps(message), file=lines, flush=True)
             if way == "killed":

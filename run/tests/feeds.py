@@ -43,8 +43,8 @@ def check_words(suite: Suite, folder: str) -> None:
     for name in ("known", "more"):
         write_text(f"{folder}/{name}", "")
     argv = ["--suppressions", "known", "--suppressions=known", "--suppressions=more", "--baseline", f"{folder}/known"]
-    argv += ["--gen-suppressions", "--color", "never", "--live", "--source-root", ".", "--html", "of-%q{WHO}-%%", "-q"]
-    argv += ["--source-url=https://x/a%20b/{file}#L{line}"]
+    argv += ["--gen-suppressions", "--color", "never", "--live=exit", "--source-root", ".", "-q"]
+    argv += ["--html", "of-%q{WHO}-%%", "--source-url=https://x/a%20b/{file}#L{line}"]
     packets = f"{folder}/packets"
     suite.run(*argv, "--", suite.program, "past", cwd=folder, WHO="me", FAKE_PACKETS=packets)
     given = read_packets(packets)[0]
@@ -103,7 +103,7 @@ def check_missing_report(suite: Suite, folder: str) -> None:
 def check_report_that_stays(suite: Suite, folder: str) -> None:
     """A report that does not end is ended by a signal to asancol-run."""
     started = suite.start("--", suite.program, "past", FAKE="stays")
-    time.sleep(1)
+    time.sleep(4)  # the process waits for its report, too
     started.send_signal(signal.SIGTERM)
     expect_ran(finish(started), 99, "p0 #2 store 1 at ")
 
@@ -209,7 +209,7 @@ def check_keep_on_full_disk(suite: Suite, folder: str) -> None:
 
 
 def check_live_is_passed(suite: Suite, folder: str) -> None:
-    packets: List[Any] = suite.packets(folder, "--live", "--", suite.program, "past")
+    packets: List[Any] = suite.packets(folder, "--live=exit", "--", suite.program, "past")
     expect("--live" in packets[0], True, json.dumps(packets[0]))
     expect(os.access(FAKE_REPORT, os.X_OK), True, "the fake report")
 

@@ -254,7 +254,7 @@ def check_progress(suite: Suite, folder: str) -> None:
     """A line on the terminal, and it is erased."""
     ran = at_terminal(suite, [RUN, "--", suite.program, "orphan", "2.7"], b"", 0.1, FAKE="1")
     expect_ran(ran, 99, "asancol: waiting for processes: 1 checked, 1 to go\r\033[K", "the report")
-    for option, terminal in (("-q", "xterm"), ("-v", "dumb"), ("--live", "xterm")):
+    for option, terminal in (("-q", "xterm"), ("-v", "dumb"), ("--live=exit", "xterm")):
         argv = [RUN, option, "--", suite.program, "orphan", "2.4"]
         expect_ran(at_terminal(suite, argv, b"", 0.1, TERM=terminal), 99, absent=["waiting"])
 

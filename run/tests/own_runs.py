@@ -350,10 +350,11 @@ def check_ended(suite: Suite, folder: str) -> None:
 
 
 def check_ended_at_verdict(suite: Suite, folder: str) -> None:
-    """A signal that comes while the program waits for its verdict waits as well, and a second one ends it."""
+    """A signal that comes while the program waits for its verdict waits as well, and a second one ends it. Before that
+    it waits for its first report, but no longer than 2 seconds."""
     program = make_lives(folder)
     slow = f"{folder}/slow"
-    write_text(slow, f"#!/bin/sh\ntouch {folder}/begun\nuntil test -e {folder}/go; do sleep 0.1; done\n"
+    write_text(slow, f"#!/bin/sh\nsleep 3\ntouch {folder}/begun\nuntil test -e {folder}/go; do sleep 0.1; done\n"
                      f"exec {REPORT} \"$@\"\n")
     os.chmod(slow, 0o755)
     for number, again, status in ((signal.SIGTERM, False, 99), (signal.SIGINT, False, 99), (signal.SIGTERM, True, -15)):
@@ -537,7 +538,7 @@ int main(int count, char **argv) {
 
 
 def check_undefined(suite: Suite, folder: str) -> None:
-    """One that UndefinedBehaviorSanitizer ends by a call of its own ends with the run's status, after its reports. What
+    """One that UndefinedBehaviorSanitizer ends by a call of its own ends with the run's status, after its report. What
     it would end with otherwise stays, and the program's callback is called, as by Clang's runtime of both."""
     write_text(f"{folder}/u.c", UNDEFINED)
     error = "runtime error: signed integer overflow"
@@ -550,7 +551,7 @@ def check_undefined(suite: Suite, folder: str) -> None:
         for words in (["bad"], ["bad", "in threads"]):
             ran = run_alone(suite, program, *words)
             expect_ran(ran, 99, error, "AddressSanitizer: heap-buffer-overflow", " 1 process", "all complete")
-            expect((ran.out, ran.err.index(error) < ran.err.index("heap-buffer")), ("death\n", True), ran.err)
+            expect((ran.out, ran.err.index("heap-buffer") < ran.err.index(error)), ("death\n", True), ran.err)
             expect_ran(suite.run("--", program, *words, ASANCOL_REPORT=REPORT), 99, PAST, "all complete")
         for options, status in (("", 1), ("exitcode=42", 42), ("abort_on_error=1", -signal.SIGABRT)):
             expect_ran(run_alone(suite, program, UBSAN_OPTIONS=options), status, error)

@@ -141,7 +141,7 @@ def check_packets(suite: Suite, folder: str) -> None:
 
 def check_live(suite: Suite, folder: str) -> None:
     """The first report is printed when its segment has ended."""
-    started = suite.start("--live", "--", SEGMENTED, "1", "2b", "wait", "3b", "4e", ASANCOL_REPORT=REPORT)
+    started = suite.start("--live=exit", "--", SEGMENTED, "1", "2b", "wait", "3b", "4e", ASANCOL_REPORT=REPORT)
     line = started.stderr.readline() if started.stderr else ""
     expect_in(line, "ERROR: asancol: heap-buffer-overflow: store of 1 byte")
     started.send_signal(signal.SIGTERM)

@@ -124,7 +124,7 @@ def check_names(suite: Suite, folder: str) -> None:
     for compiler in filter(shutil.which, ("gcc", "clang")):
         argv = [CC, "-g", "-w", "faults.c", "-o", compiler + "-faults"]
         call(argv, cwd=folder, check=True, env={**os.environ, "ASANCOL_CC": compiler})
-        argv = ["--source-root", folder, "--shadow", "--leaks=no", "--", f"{folder}/{compiler}-faults"]
+        argv = ["--live=end", "--source-root", folder, "--shadow", "--leaks=no", "--", f"{folder}/{compiler}-faults"]
         ran = run_real(suite, "--json", f"{folder}/x", *argv)
         found = re.findall(r"ERROR: asancol: (.*?)(?:: .*)?\n    #0 .* faults\.c:(\d+):\d+\n", ran.err)
         expect(found, [(ATTEMPTS.get(name, name), line) for name, line in wanted], ran.err)
@@ -551,7 +551,7 @@ def check_file_instead(suite: Suite, folder: str) -> None:
 
 def check_live(suite: Suite, folder: str) -> None:
     """With --live a report comes while the command runs."""
-    started = suite.start("--live", "--", "sh", "-c", f"{suite.program} past; sleep 30", ASANCOL_REPORT=REPORT)
+    started = suite.start("--live=exit", "--", "sh", "-c", f"{suite.program} past; sleep 30", ASANCOL_REPORT=REPORT)
     line = started.stderr.readline() if started.stderr else ""
     started.terminate()
     started.communicate()

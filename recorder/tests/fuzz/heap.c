@@ -49,7 +49,7 @@ static int look_at_clock(int clock, struct timespec *now)
     return 0;
 }
 struct library library = {.__libc_single_threaded = &is_alone, .clock_gettime = look_at_clock};
-_Atomic bool halt_is_on, lean_is_on, telling_is_on;
+_Atomic bool halt_is_on, lean_is_on, telling_is_on, showing_is_on;
 static void halt_at(enum code code, unsigned width, uint64_t address, uintptr_t caller, struct access *whole)
 {
     (void)code, (void)width, (void)address, (void)caller, (void)whole;
