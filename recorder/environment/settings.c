@@ -326,20 +326,25 @@ static void print_help(void)
         return; /* nobody reads it */
 }
 
+void settings_read_outputs(struct settings *settings)
+{
+    read_outputs(settings);
+    settings->root = number_of("ASANCOL_ROOT", 1, UINT32_MAX, 0);
+    settings->with_side = number_of("ASANCOL_WHERE", 0, 1, 0) == 1 || settings->hub != NULL;
+    settings->is_full = number_of("ASANCOL_FULL", 0, 1, settings->hub == NULL) == 1;
+}
+
 void settings_read(struct settings *settings)
 {
     static AS_TABLE struct entry log;
     say_to(name_from_root("ASANCOL_LOG", &log));
     if (!startup.is_set_user)
         look_for_unknown();
-    read_outputs(settings);
-    settings->root = number_of("ASANCOL_ROOT", 1, UINT32_MAX, 0);
+    settings_read_outputs(settings);
     settings->stop = number_of("ASANCOL_STOP", 1, EVENT_LIMIT, 0);
     settings->limit = number_of("ASANCOL_LIMIT", 1, EVENT_LIMIT, EVENT_LIMIT);
     settings->segments = number_of("ASANCOL_SEGMENTS", 0, MAX_SEGMENTS_KEPT, ALL_SEGMENTS);
     settings->patience_ms = (int)number_of("ASANCOL_PATIENCE", 0, 86400, 60) * 1000;
-    settings->with_side = number_of("ASANCOL_WHERE", 0, 1, 0) == 1 || settings->hub != NULL;
-    settings->is_full = number_of("ASANCOL_FULL", 0, 1, settings->hub == NULL) == 1;
     read_options_of_asan(settings);
     read_classes(settings);
     settings->checks_libraries = number_of("ASANCOL_LIBRARIES", 0, 1, 1) == 1;

@@ -1,7 +1,8 @@
 /* What the environment says.
 
    Called: settings_read by process.c, in the thread that starts the recorder, once, not in a signal handler;
-   settings_hub there, and by mapping.c in the only thread, before the process ends because its shadow has no room.
+   settings_read_outputs by that in the one thread that ends the process, also in a handler; settings_hub at the start,
+   and by mapping.c in the only thread, before the process ends because its shadow has no room.
    Lock: none: process.c keeps the settings, and changes `trace` and `is_full` later, with the allocator's lock. Others
    read them, in any thread, also in a handler. */
 #ifndef ASANCOL_SETTINGS_H
@@ -59,5 +60,7 @@ const char *settings_hub(void);
 /* Reads all settings, and names unknown ones and invalid values. In the environment the names of the trace
    and of the log are from the root afterwards, so that a process that this one starts elsewhere finds them. */
 void settings_read(struct settings *settings);
+/* Where the recording goes alone, again, once a run of its own has said that. */
+void settings_read_outputs(struct settings *settings);
 
 #endif

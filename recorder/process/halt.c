@@ -158,7 +158,7 @@ void halt_at(enum code code, unsigned width, uint64_t address, uintptr_t caller,
         end_process();
     if (!is_first_to_halt())
         return;
-    if (recorder_begins_late() && recorder_begin_late())
+    if (recorder_begins_late() ? recorder_begin_late() : recorder_begin_for_words())
         record(code, width, address, caller, whole);
     bool is_left = is_left_to_run();
     int patience_ms, words = ask_for_words(is_left, &patience_ms);

@@ -45,6 +45,9 @@ enum { NOT_CHECKED = 98 };
 static const char *failure;
 static bool is_only_tried;
 
+/* The run begins at a halt: the process prints its words, and it nothing itself. The status is that of the program. */
+static bool is_for_words;
+
 /* The value of a variable that is not empty, or null. */
 static const char *value_of(const char *name)
 {
@@ -117,12 +120,12 @@ static const char **copy_list(const char *const *list, size_t count)
 /* Whether the run is to begin also if there is nothing to report. */
 static bool begins_at_once(void)
 {
-    return value_of("ASANCOL_RUN_OPTIONS") != NULL;
+    return value_of("ASANCOL_RUN_OPTIONS") != NULL && !is_for_words;
 }
 
 /* What the run is started with, before the words of the program. Who has come from AddressSanitizer, by its flag or its
    options, may have parsers of its text. Answers how many words. */
-enum { MOST_FRONT = 10, MOST_OPTIONS = 256 };
+enum { MOST_FRONT = 12, MOST_OPTIONS = 256 };
 static size_t put_front(const char **list, struct waiter_command *command)
 {
     static char digits[DIGITS_ROOM];
@@ -136,13 +139,15 @@ static size_t put_front(const char **list, struct waiter_command *command)
     memcpy(list, front, sizeof front);
     command->sockets_at = WORDS - 1;
     list[WORDS] = "--held";
-    return WORDS + !begins_at_once();
+    list[WORDS + 1] = "--log-file";
+    list[WORDS + 2] = "/dev/null";
+    return is_for_words ? WORDS + 3 : WORDS + !begins_at_once();
 }
 
 /* Answers what went wrong, or null. */
 static const char *make_words(struct waiter_command *command, const char *const *words)
 {
-    const char *list[MOST_FRONT + MOST_OPTIONS], *options = value_of("ASANCOL_RUN_OPTIONS");
+    const char *list[MOST_FRONT + MOST_OPTIONS], *options = is_for_words ? NULL : value_of("ASANCOL_RUN_OPTIONS");
     size_t at = put_front(list, command), of_words = 0;
     char *text = take_memory(options != NULL ? strlen(options) + 1 : 1);
     if (text == NULL)
@@ -239,6 +244,11 @@ static void give_settings(const char *hub)
     struct joined joined = {.text = text, .room = sizeof text};
     joined_add(&joined, "ASANCOL_HUB=", SETTINGS_MOST);
     joined_add(&joined, hub, WAITER_NAME_ROOM);
+    if (is_for_words) {
+        joined_add(&joined, "\nASANCOL_TEXT=words", SETTINGS_MOST);
+        orphan_give(text);
+        return;
+    }
     joined_add(&joined, "\nASANCOL_ROOT=", SETTINGS_MOST);
     joined_add(&joined, put_digits(digits + sizeof digits, (uint64_t)system_getpid(), 1), sizeof digits);
     joined_add(&joined, "\nASANCOL_LEAKS=1", SETTINGS_MOST);
@@ -290,6 +300,17 @@ void own_run_begin(void)
         failure = why_not_found(wanted);
     else
         failure = begin(&command);
+}
+
+bool own_run_begin_at_halt(void)
+{
+    static char path[PATH_MAX];
+    struct waiter_command command = {.path = path};
+    bool is_target = LLVMFuzzerTestOneInput != NULL && asancol_by_option == NULL && value_of("__AFL_SHM_ID") == NULL;
+    if (IS_PRELOADED || !is_target || startup.argv == NULL || startup.is_set_user || value_of("ASANCOL_RUN") != NULL)
+        return false;
+    is_for_words = true;
+    return find_run(path, NULL) && begin(&command) == NULL;
 }
 
 void own_run_say(void)

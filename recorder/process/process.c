@@ -238,6 +238,16 @@ bool recorder_begin_late(void)
     return has_begun;
 }
 
+bool recorder_begin_for_words(void)
+{
+    if (output_name() != NULL || heap_is_entered() || !own_run_begin_at_halt())
+        return false;
+    settings_read_outputs(&process.settings);
+    if (recorder_hub() == NULL)
+        return false;
+    return recorder_begin_late();
+}
+
 /* The flag of faults comes first: who finds the stream on does not find that, and records once. */
 bool recorder_end_waiting(void)
 {

@@ -38,6 +38,8 @@ void recorder_say_child(void);
 bool recorder_begins_late(void);
 /* Begins a recording that was put off. False: it can't be, and a line said why. */
 bool recorder_begin_late(void);
+/* The same for a fuzzer's target that has no run: one of its own begins, which has the words of its report. */
+bool recorder_begin_for_words(void);
 /* Whether this is preloaded and waits for checks, with which it begins to record. */
 bool recorder_waits_for_checks(void);
 /* Begins the recording, if it waits: else, or if it can't begin, it answers false, and a line has said why it can't. */

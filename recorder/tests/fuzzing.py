@@ -2,6 +2,7 @@
 
 import glob
 import os
+import re
 import shutil
 from typing import Dict, List, Tuple
 
@@ -131,7 +132,7 @@ def check_libfuzzer(suite: Suite, folder: str, compiler: Compiler, is_cpp: bool)
     with open(f"{folder}/{name}", "w", encoding="utf-8") as file:
         file.write(TARGET if not is_cpp else TARGET.replace("int LLVM", 'extern "C" int LLVM'))
     make = compiler.cpp if is_cpp else compiler.c
-    make(folder, [name], f"{folder}/target", "-O2", "-fsanitize=fuzzer")
+    make(folder, [name], f"{folder}/target", "-O2", "-g", "-fsanitize=fuzzer")
     argv = ["./target", "-seed=1", "-runs=2000000", "-max_len=64"]
     ran = run(argv, folder, ASANCOL_HALT="2", ASANCOL_TRACE="%p.trace")
     expect((ran.returncode, len(glob.glob(f"{folder}/crash-*")), len(traces(folder))), (77, 1, 1), ran.stderr[-2000:])
@@ -143,6 +144,11 @@ def check_libfuzzer(suite: Suite, folder: str, compiler: Compiler, is_cpp: bool)
     write(f"{folder}/in", seed="BUGS")
     ran = run(["./target", "-runs=0", "in"], folder)
     expect((ran.returncode, ran.stderr.count(b"ERROR: AddressSanitizer: heap-buffer-overflow ")), (77, 1), ran.stderr)
+    worded = run(["./target", "-runs=0", "in"], folder, ASANCOL_RUN="", ASANCOL=suite.asancol).stderr.decode()
+    expect(worded.count("ERROR: AddressSanitizer: heap-buffer-overflow "), 1, worded)
+    first = worded.partition("ERROR: libFuzzer")[0]
+    expect(re.search(rf" in LLVMFuzzerTestOneInput /\S+/{re.escape(name)}:10", first) is not None, True, worded)
+    expect("asancol: 1 report" in worded, False, worded)
     quiet = run(["./target", "-runs=0", "in"], folder, ASANCOL_HALT="0")
     expect(quiet.returncode, 0, "with ASANCOL_HALT=0")
 
