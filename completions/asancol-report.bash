@@ -15,7 +15,7 @@ _asancol_report() {
         compopt -o filenames 2> /dev/null
         return
         ;;
-    --source-url | --category | --quarantine | --memory | --limit)
+    --source-url | --category | --hide-frames | --quarantine | --memory | --limit)
         return
         ;;
     --format)
@@ -46,9 +46,9 @@ _asancol_report() {
     esac
     if [[ $word == -* ]]; then
         mapfile -t COMPREPLY < <(compgen -W '--json --sarif --junit --codequality --markdown --html --source-url
-            --category --format --log-path --live --crashes --source-root --color --full-stacks --all-places --shadow
-            --unchecked --no-machines --quiet --leaks --suppressions --gen-suppressions --baseline --trace --quarantine
-            --memory --limit --run --help --version' -- "$word")
+            --category --format --log-path --live --crashes --source-root --color --full-stacks --hide-frames --all-places
+            --shadow --unchecked --no-machines --quiet --leaks --suppressions --gen-suppressions --baseline --trace
+            --quarantine --memory --limit --run --help --version' -- "$word")
     else
         local end='*.jsonl'
         [[ " ${COMP_WORDS[*]} " == *' --trace '* ]] && end='*.trace'

@@ -19,6 +19,7 @@ complete -c asancol-report -l crashes -d 'count crashes that a parent waited for
 complete -c asancol-report -l source-root -x -a '(__fish_complete_directories)' -d 'show files under DIR by their paths from there'
 complete -c asancol-report -l color -x -a 'auto always never' -d 'colors: auto, always or never'
 complete -c asancol-report -l full-stacks -d 'print all frames of a stack, and whole names'
+complete -c asancol-report -l hide-frames -x -d 'make matching frames one line'
 complete -c asancol-report -l all-places -d 'print what may follow from another report, too'
 complete -c asancol-report -l shadow -d 'print the shadow bytes around each bad byte'
 complete -c asancol-report -l unchecked -x -a 'list list-all no error' -d 'unchecked code: list, list-all, no or error'

@@ -10,8 +10,8 @@ _asancol_run() {
         --) ended=' ' ;;
         --exitcode | --error-exitcode | --incomplete-exitcode | --nothing-exitcode | --at-least | --wait | --timeout | \
             --json | --sarif | --junit | --codequality | --markdown | --html | --source-url | --category | --keep | \
-            --log-file | --format | --log-path | --live | --source-root | --color | --unchecked | --leaks | \
-            --suppressions | --baseline | --quarantine | --memory | --limit)
+            --log-file | --format | --log-path | --live | --source-root | --color | --hide-frames | --unchecked | \
+            --leaks | --suppressions | --baseline | --quarantine | --memory | --limit)
             ((at++))
             [[ ${COMP_WORDS[at]} == = ]] && ((at++))
             ;;
@@ -31,7 +31,7 @@ _asancol_run() {
     fi
     case $before in
     --exitcode | --error-exitcode | --incomplete-exitcode | --nothing-exitcode | --at-least | --wait | --timeout | \
-        --source-url | --category | --quarantine | --memory | --limit)
+        --source-url | --category | --hide-frames | --quarantine | --memory | --limit)
         return
         ;;
     --json | --sarif | --junit | --codequality | --markdown | --html | --log-file | --log-path | --suppressions | \
@@ -69,9 +69,9 @@ _asancol_run() {
     if [[ $word == -* && -z $ended ]]; then
         mapfile -t COMPREPLY < <(compgen -W '--exitcode --error-exitcode --incomplete-exitcode --nothing-exitcode
             --at-least --wait --timeout --json --sarif --junit --codequality --markdown --html --source-url --category
-            --keep --log-file --format --log-path --live --crashes --source-root --color --full-stacks --all-places
-            --shadow --unchecked --quiet --verbose --leaks --suppressions --gen-suppressions --baseline --quarantine
-            --no-mismatches --full --preload --memory --limit --help --version --' -- "$word")
+            --keep --log-file --format --log-path --live --crashes --source-root --color --full-stacks --hide-frames
+            --all-places --shadow --unchecked --quiet --verbose --leaks --suppressions --gen-suppressions --baseline
+            --quarantine --no-mismatches --full --preload --memory --limit --help --version --' -- "$word")
     else
         mapfile -t COMPREPLY < <(compgen -c -- "$word"; compgen -f -- "$word")
     fi

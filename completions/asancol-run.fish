@@ -15,7 +15,7 @@ function _asancol_run_takes -a what
             case nono--
                 set ends yes
             case 'nono--*=*'
-            case nono--exitcode nono--error-exitcode nono--incomplete-exitcode nono--nothing-exitcode nono--at-least nono--wait nono--timeout nono--json nono--sarif nono--junit nono--codequality nono--markdown nono--html nono--source-url nono--category nono--keep nono--log-file nono--format nono--log-path nono--live nono--source-root nono--color nono--unchecked nono--leaks nono--suppressions nono--baseline nono--quarantine nono--memory nono--limit
+            case nono--exitcode nono--error-exitcode nono--incomplete-exitcode nono--nothing-exitcode nono--at-least nono--wait nono--timeout nono--json nono--sarif nono--junit nono--codequality nono--markdown nono--html nono--source-url nono--category nono--keep nono--log-file nono--format nono--log-path nono--live nono--source-root nono--color nono--hide-frames nono--unchecked nono--leaks nono--suppressions nono--baseline nono--quarantine nono--memory nono--limit
                 set skips yes
             case 'nono-*'
             case '*'
@@ -29,7 +29,7 @@ function _asancol_run_takes -a what
     end
 end
 
-complete -c asancol-run -n '_asancol_run_takes command' -x -a '(__fish_complete_subcommand --fcs-skip=1 - --exitcode --error-exitcode --incomplete-exitcode --nothing-exitcode --at-least --wait --timeout --json --sarif --junit --codequality --markdown --html --source-url --category --keep --log-file --format --log-path --live --source-root --color --unchecked --leaks --suppressions --baseline --quarantine --memory --limit)'
+complete -c asancol-run -n '_asancol_run_takes command' -x -a '(__fish_complete_subcommand --fcs-skip=1 - --exitcode --error-exitcode --incomplete-exitcode --nothing-exitcode --at-least --wait --timeout --json --sarif --junit --codequality --markdown --html --source-url --category --keep --log-file --format --log-path --live --source-root --color --hide-frames --unchecked --leaks --suppressions --baseline --quarantine --memory --limit)'
 complete -c asancol-run -n '_asancol_run_takes option' -l exitcode -x -d 'status if a report counts'
 complete -c asancol-run -n '_asancol_run_takes option' -l error-exitcode -x -d 'status if a report counts'
 complete -c asancol-run -n '_asancol_run_takes option' -l incomplete-exitcode -x -d 'status if the run was incomplete'
@@ -54,6 +54,7 @@ complete -c asancol-run -n '_asancol_run_takes option' -l crashes -d 'count cras
 complete -c asancol-run -n '_asancol_run_takes option' -l source-root -x -a '(__fish_complete_directories)' -d 'show files under DIR by their paths from there'
 complete -c asancol-run -n '_asancol_run_takes option' -l color -x -a 'auto always never' -d 'colors: auto, always or never'
 complete -c asancol-run -n '_asancol_run_takes option' -l full-stacks -d 'print all frames of a stack, and whole names'
+complete -c asancol-run -n '_asancol_run_takes option' -l hide-frames -x -d 'make matching frames one line'
 complete -c asancol-run -n '_asancol_run_takes option' -l all-places -d 'print what may follow from another report, too'
 complete -c asancol-run -n '_asancol_run_takes option' -l shadow -d 'print the shadow bytes around each bad byte'
 complete -c asancol-run -n '_asancol_run_takes option' -l unchecked -x -a 'list list-all no error' -d 'unchecked code: list, list-all, no or error'

@@ -27,6 +27,7 @@ _arguments -S \
     '--source-root=[show files under DIR by their paths from there]:folder:_files -/' \
     '--color=[colors: auto, always or never]:when:(auto always never)' \
     '--full-stacks[print all frames of a stack, and whole names]' \
+    '*--hide-frames=[make matching frames one line]:name' \
     '--all-places[print what may follow from another report, too]' \
     '--shadow[print the shadow bytes around each bad byte]' \
     '--unchecked=[unchecked code: list, list-all, no or error]:how:(list list-all no error)' \

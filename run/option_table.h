@@ -34,6 +34,7 @@
     "  --source-root DIR        show files under DIR by their paths from there\n" \
     "  --color WHEN             colors: auto, always or never (auto)\n" \
     "  --full-stacks            print all frames of a stack, and whole names\n" \
+    "  --hide-frames PATTERN    make matching frames one line; may be repeated\n" \
     "  --all-places             print what may follow from another report, too\n" \
     "  --shadow                 print the shadow bytes around each bad byte\n" \
     "  --unchecked HOW          unchecked code: list, list-all, no or error (list)\n" \
@@ -90,6 +91,7 @@
     {"source-root", 0, PASS_FOLDER, 0, 0, 0, NULL}, \
     {"color", 0, PASS_WORDS, 0, 0, 0, (const char *const[]){"auto", "always", "never", NULL}}, \
     {"full-stacks", 0, PASS_FLAG, 0, 0, 0, NULL}, \
+    {"hide-frames", 0, PASS_NAME, 0, 0, 0, NULL}, \
     {"all-places", 0, PASS_FLAG, 0, 0, 0, NULL}, \
     {"shadow", 0, PASS_FLAG, 0, 0, 0, NULL}, \
     {"leaks", 0, PASS_WORDS, AT(leaks), 0, 0, (const char *const[]){"yes", "summary", "no", NULL}}, \

@@ -20,7 +20,7 @@ def level_of(finding: Finding) -> str:
 def words_of(finding: Finding) -> str:
     """Returns a finding in a sentence, without its place."""
     near = f", {finding.where}" if finding.where else ""
-    return finding.title + near + finding.judge
+    return finding.title + near
 
 
 def steps_of(finding: Finding) -> List[Tuple[str, Stack]]:

@@ -23,8 +23,6 @@ FINGERPRINT_DIGITS = 16
 MAX_NUMBERS = 1000
 # Of a block that the recorder has no notes on any more.
 FORGOTTEN = "freed long ago: its exact size and its stacks are no longer kept"
-# Who has judged a report, if it was not the checker.
-BY_RECORDER = "by the recorder"
 # A file of the system, whose inlined functions stand in all programs: in an `include` below `/usr`, here or in a copy.
 SYSTEM_HEADER = re.compile(r"(?:^|/)usr/(?:local/)?(?:include/|lib\w*/(?:.+/)?include/)")
 # The library of Rust, as rustc and packages of it name its sources.
@@ -286,11 +284,6 @@ class Finding:
         if self.class_name in ATTEMPTS:
             return self.what
         return f"{TITLES.get(self.class_name, self.class_name)}: {self.what}"
-
-    @property
-    def judge(self) -> str:
-        """Who has judged it, to be put after its words; nothing, if that is the checker."""
-        return f" ({BY_RECORDER})" if self.by_recorder else ""
 
     @property
     def has_address(self) -> bool:

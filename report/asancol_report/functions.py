@@ -49,11 +49,14 @@ def brief(name: str) -> str:
 @functools.lru_cache(maxsize=1 << 12)
 def is_standard(name: str) -> bool:
     """Whether a function is of C++'s library or Rust's. What it returns, and what its arguments are, says nothing."""
-    if name.startswith("<"):
-        return is_standard_of_rust(name)
+    return is_standard_of_rust(name) if name.startswith("<") else scope_of(name).startswith(STANDARD)
+
+
+@functools.lru_cache(maxsize=1 << 12)
+def scope_of(name: str) -> str:
+    """Returns a name of C++ without the arguments of templates, what the function returns, and its arguments."""
     bare = "".join(text for text, is_arguments in parts(name.replace(ANONYMOUS, "")) if not is_arguments)
-    scope = re.split(r"\(|\boperator\b", bare)[0].split(" ")[-1]
-    return scope.startswith(STANDARD)
+    return re.split(r"\(|\boperator\b", bare)[0].split(" ")[-1]
 
 
 def is_standard_of_rust(name: str) -> bool:

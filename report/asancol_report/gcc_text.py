@@ -20,7 +20,7 @@ class GccText(Text):
 
     def finding(self, finding: Finding, times: bool = True, seen: str = "") -> Iterator[str]:
         top, near = finding.top, f", {finding.where}" if finding.where else ""
-        words = finding.title + finding.threads.where(finding.threads.access) + function_of(top) + near + finding.judge
+        words = finding.title + finding.threads.where(finding.threads.access) + function_of(top) + near
         if times and finding.count > 1:
             words += f" ({finding.count} times, {plural(finding.processes, 'process')})"
         yield self.line(top, level_of(finding), words)
@@ -36,7 +36,7 @@ class GccText(Text):
         if seen:
             yield self.line(top, NOTE, seen)
         if self.has_suppressions:
-            yield self.line(top, NOTE, f"suppression: {suppression_of(finding, self.root) or 'none'}")
+            yield self.line(top, NOTE, f"suppression: {suppression_of(finding, self.rule_root) or 'none'}")
 
     def crashes(self, results: Results, processes: Iterable[Process]) -> Iterator[str]:
         crashed = [(it, crash) for it, crash in ((it, results.crash_of(it)) for it in processes) if crash]

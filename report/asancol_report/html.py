@@ -162,7 +162,7 @@ class Page:
         """Returns the title as in the text, with the class made to stand out."""
         start, colon, rest = finding.title.partition(": ")
         thread = finding.threads.where(finding.threads.access)
-        return tag("span", escape(start), class_="kind") + escape(colon + rest + thread + finding.judge)
+        return tag("span", escape(start), class_="kind") + escape(colon + rest + thread)
 
     def command_of(self, process: Process) -> str:
         return command_line([shown_path(process.command[0], self.root), *process.command[1:]])

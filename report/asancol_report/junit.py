@@ -96,7 +96,7 @@ def commands_of(processes: Iterable[Optional[Process]]) -> Iterator[str]:
 
 def named_place(finding: Finding, root: str) -> str:
     function = f"{finding.top.function} " if finding.top.function else ""
-    return f"{finding.title}{finding.judge} in {function}{shown_path(place_text(finding.top), root)}"
+    return f"{finding.title} in {function}{shown_path(place_text(finding.top), root)}"
 
 
 def unseen(case: Case, run: Run) -> List[str]:

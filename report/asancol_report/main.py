@@ -17,6 +17,7 @@ from .gather import Gatherer
 from .json_lines import read_whole
 from .modules import Modules
 from .options import Options
+from .patterns import pattern
 from .results import Process, Results
 from .sources import Sources
 from .suppressions import Suppressions
@@ -397,7 +398,7 @@ def text_of(options: Options, root: str, is_colored: bool) -> Text:
     if form == ASAN:
         from .asan_text import AsanText
         return AsanText(sys.stdout, Colors(False), root, False)
-    text = Text(sys.stdout, Colors(is_colored), root, switches["--gen-suppressions"],
+    text = Text(sys.stdout, Colors(is_colored), below, switches["--gen-suppressions"],
                 switches["--full-stacks"], switches["--shadow"], " and ".join(whole))
     if form == GCC:
         from .gcc_text import GccText
@@ -405,7 +406,9 @@ def text_of(options: Options, root: str, is_colored: bool) -> Text:
     elif form == GITHUB:
         from .github_text import GithubText
         text = GithubText(sys.stdout, Colors(False), below, switches["--gen-suppressions"], switches["--full-stacks"])
+    text.rule_root = root
     text.has_all_places = switches["--all-places"]
+    text.hidden = {it: pattern(it) for it in options.hidden_frames}
     return text
 
 

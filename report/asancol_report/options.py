@@ -17,6 +17,7 @@ class Options:
         self.values: Dict[str, str] = {}
         self.outputs: List[Tuple[str, str]] = []
         self.suppressions: List[str] = []
+        self.hidden_frames: List[str] = []
         self.files: List[str] = []
 
     @property
@@ -55,6 +56,8 @@ def take(options: Options, name: str, rest: List[str], value: str, has_value: bo
             raise Refused(f"{name} needs a value")
         if name == "--suppressions":
             options.suppressions.append(value)
+        if name == "--hide-frames":
+            options.hidden_frames.append(value)
         if name in OUTPUTS:
             options.outputs.append((name, value))
         options.values[name] = value

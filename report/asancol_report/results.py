@@ -134,7 +134,6 @@ class Totals(NamedTuple):
     crashes_awaited: int
     troubles: int
     unchecked: int
-    by_recorder: int  # of the reports
     leaks: Leaks  # that are none
 
 
@@ -173,11 +172,13 @@ class Results:
         self.commands: Counter[Tuple[str, ...]] = Counter()
 
     def note_lines(self) -> None:
-        """Notes what has no lines: functions of sources that were compiled without them, and sources that are newer
-        than their program."""
+        """Notes what has no lines: functions of sources that were compiled without them, if others of the module have
+        some, and sources that are newer than their program."""
+        counted = [it for it in self.all_places() if it.counts]
+        lined = {frame.module for it in counted for frame in it.stack if frame.line}
         functions: Dict[str, Dict[str, None]] = {}
-        for top in (it.top for it in self.all_places() if it.counts):
-            if top.is_bare and top.function:
+        for top in (it.top for it in counted):
+            if top.is_bare and top.function and top.module in lined:
                 functions.setdefault(top.module, {})[top.function] = None
             elif top.text and top.caret is None:
                 self.notes[f"{top.file} is newer than {top.module}: was that built again?"] = None
@@ -394,7 +395,7 @@ class Results:
         return sum(not run.cut for run in self.runs)
 
     def totals(self) -> Totals:
-        reports = places = suppressed = known = by_recorder = 0
+        reports = places = suppressed = known = 0
         for finding in self.places.values():
             if finding.suppression:
                 suppressed += finding.count
@@ -403,7 +404,6 @@ class Results:
             elif finding.counts:
                 places += 1
                 reports += finding.count
-                by_recorder += finding.count if finding.by_recorder else 0
         processes = [process for run in self.runs for process in run.processes.values()]
         crashes = list(self.crash_places.values())
         return Totals(reports, places, suppressed, known, len(processes), sum(it.events for it in processes),
@@ -412,7 +412,7 @@ class Results:
                       sum(it.count for it in crashes if it.is_known and not it.suppression),
                       sum(it.count for it in crashes if it.is_awaited and not (it.is_known or it.suppression))
                       + sum(it.has_halted and self.is_awaited(it) for it in processes),
-                      sum(len(run.troubles) for run in self.runs), self.unchecked_count(), by_recorder,
+                      sum(len(run.troubles) for run in self.runs), self.unchecked_count(),
                       total(run.leaks for run in self.runs))
 
 

@@ -3,10 +3,10 @@
 from __future__ import annotations
 
 import re
-from typing import Iterator, List, Tuple
+from typing import Callable, Iterator, List, Tuple
 
 from .findings import Frame, RUST_LIBRARY, Stack
-from .functions import is_standard
+from .functions import is_standard, scope_of
 from .words import plural
 
 LIBRARY = re.compile(r"/lib(?:32|64|x32)?/(?:.*/)?(libc|libstdc\+\+|libc\+\+|libc\+\+abi)(?:-[\d.]+)?\.so[.\d]*\Z")
@@ -14,6 +14,12 @@ LIBRARY = re.compile(r"/lib(?:32|64|x32)?/(?:.*/)?(libc|libstdc\+\+|libc\+\+|lib
 OF_RECORDER = "<recorder>"
 RECORDER = re.compile(r"(?:\A|/)recorder/(?:base|calls|heap|interface|process|shadow|stacks|stream)/\w+\.[ch]\Z|"
                       rf"\A{OF_RECORDER}\Z")
+# The headers of C++'s library: a function there that takes a local type, as a lambda is, may have no scope in its name.
+CXX_HEADER = re.compile(r"/include/c\+\+/(?:v1|\d[\d.]*)/")
+# What calls a test, by the scope of functions or by the source.
+TEST_SCOPES = (("testing::", "googletest"), ("Catch::", "Catch2"), ("doctest::", "doctest"),
+               ("boost::unit_test::", "Boost.Test"))
+UNITY = re.compile(r"(?:\A|/)unity(?:_fixture)?\.c\Z")
 # A line of source that is longer is cut, and the column stays in view.
 MAX_SHOWN = 100
 BEFORE_CARET = 60
@@ -33,12 +39,23 @@ def owner_of(frame: Frame) -> str:
         return library[1]
     if RECORDER.search(frame.file):
         return "the recorder"
-    return "std::" if is_standard(frame.function) or RUST_LIBRARY.search(frame.file) else ""
+    if is_standard(frame.function) or RUST_LIBRARY.search(frame.file) or CXX_HEADER.search(frame.file):
+        return "std::"
+    return owner_of_test(frame)
 
 
-def rows_of(stack: Stack, own: int) -> Iterator[Row]:
+def owner_of_test(frame: Frame) -> str:
+    """Returns which framework calls tests by a function."""
+    scope = scope_of(frame.function)
+    found = next((name for start, name in TEST_SCOPES if scope.startswith(start)), "")
+    return found or ("Unity" if UNITY.search(frame.file) else "")
+
+
+def rows_of(stack: Stack, own: int, owner_of: Callable[[Frame], str] = owner_of,
+            hidden: Tuple[str, ...] = ()) -> Iterator[Row]:
     """Yields frames with their numbers, and how many are one line. The one that stands for the place is a line, and so
-    is one that is alone. Calls that come again and again, as in a recursion, are lines the first time."""
+    is one that is alone, unless its owner is hidden. Calls that come again and again, as in a recursion, are lines the
+    first time."""
     at = 0
     while at < len(stack):
         owners: List[str] = []
@@ -46,7 +63,7 @@ def rows_of(stack: Stack, own: int) -> Iterator[Row]:
         while end < len(stack) and end != own and owner_of(stack[end]):
             owners.append(owner_of(stack[end]))
             end += 1
-        if end - at > 1:
+        if end - at > 1 or owners[:1] and owners[0] in hidden:
             yield at, end - at, in_words(list(dict.fromkeys(owners)))
             at = end
         else:

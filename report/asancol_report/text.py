@@ -2,16 +2,19 @@
 
 from __future__ import annotations
 
-from typing import Callable, Dict, Iterable, Iterator, List, Optional, TextIO, Tuple
+import re
+import textwrap
+from typing import Callable, Dict, Iterable, Iterator, List, Optional, Set, TextIO, Tuple
 
 from . import shadow_rows
 from .class_names import TITLES
+from .classes import advice_for
 from .crashes import own_calls
-from .findings import Block, BY_RECORDER, Finding, FORGOTTEN, Frame, Place, place_text, Stack, Threads
+from .findings import Block, Finding, FORGOTTEN, Frame, Place, place_text, Stack, Threads
 from .functions import brief
-from .leaks import text_of_runs
+from .leaks import text_of_runs, total
 from .results import Process, Results, Run
-from .stacks import folded, rows_of, window
+from .stacks import folded, owner_of, rows_of, window
 from .suppressions import suppression_of
 from .variables import Variable
 from .words import date_and_time, plural, printable, shown_path
@@ -22,6 +25,7 @@ MAX_UNCHECKED_SAID = 5
 MAX_ALSO = 5
 # The most places with a report in the text, and the most variables of a frame.
 MAX_PLACES = 50
+HINT_COLUMNS = 100
 MAX_VARIABLES = 16
 
 
@@ -47,6 +51,9 @@ class Text:
         self.has_suppressions = has_suppressions  # print what suppresses each finding
         self.has_all_frames = has_all_frames
         self.has_shadow = has_shadow
+        self.rule_root = root  # suppressions have their paths from here
+        self.hidden: Dict[str, re.Pattern[str]] = {}  # frames that are one line, by their patterns
+        self.hints: Set[str] = set()  # classes whose hint was printed
         self.has_all_places = False  # what may follow from an earlier report is printed, too
         self.elsewhere = elsewhere  # the files that have all places
         self.places = 0  # that were printed
@@ -120,7 +127,7 @@ class Text:
 
     def finding(self, finding: Finding, times: bool = True, seen: str = "") -> Iterator[str]:
         colors = self.colors
-        notes = [BY_RECORDER] if finding.by_recorder else []
+        notes = []
         if times and finding.count > 1:
             notes += [f"{finding.count} times", plural(finding.processes, "process")]
         count = f" ({', '.join(notes)})" if notes else ""
@@ -150,10 +157,18 @@ class Text:
         yield from self.also(finding)
         if seen:
             yield f"  {printable(seen)}"
+        yield from self.hint(finding.class_name)
         if self.has_suppressions:
-            line = suppression_of(finding, self.root)
+            line = suppression_of(finding, self.rule_root)
             yield f"  suppression: {printable(line)}" if line else "  suppression: none, since its place is not known"
         yield ""
+
+    def hint(self, class_name: str) -> Iterator[str]:
+        """What a developer should look at, at the first report of each class."""
+        if class_name not in self.hints:
+            self.hints.add(class_name)
+            yield from textwrap.wrap(f"hint: {advice_for(class_name)}", HINT_COLUMNS, initial_indent="  ",
+                                     subsequent_indent="    ")
 
     def threads(self, threads: Threads) -> Iterator[str]:
         for title, stack in threads.titles():
@@ -199,14 +214,20 @@ class Text:
         """A stack, with the line of source of the frame that stands for the place, or of the next one that has any."""
         own = next((at for at, frame in enumerate(stack) if frame is top), -1)
         sourced = next((at for at in range(own, len(stack)) if own >= 0 and stack[at].text), own)
-        for first, count, owners in rows_of(stack, own):
-            if count > 1 and not self.has_all_frames:
+        for first, count, owners in rows_of(stack, own, self.owner_of, tuple(self.hidden)):
+            if owners and not self.has_all_frames:
                 yield f"    .. {folded(count, owners)}"
                 continue
             for at in range(first, first + count):
                 yield f"    #{at} {self.frame(stack[at])}"
                 if at == sourced:
                     yield from self.source(stack[at])
+
+    def owner_of(self, frame: Frame) -> str:
+        """Returns whose code a frame is, if it is one of several in a line: a pattern, or a library."""
+        words = [it for it in (frame.function, frame.file, frame.module) if it]
+        return next((text for text, pattern in self.hidden.items() if any(map(pattern.search, words))), "") or (
+            owner_of(frame))
 
     def source(self, frame: Frame) -> Iterator[str]:
         """The line of a frame, with a caret under its column. Without it, if the file may have changed since."""
@@ -252,11 +273,15 @@ class Text:
         for note in results.notes:
             yield f"asancol: {printable(self.short.get(note, note))}"
         if has_places:
-            yield from self.last_line((*results.counted(), *results.counted_crashes())[:1])
+            yield from self.last_line([*results.counted(), *results.counted_crashes()])
 
-    def last_line(self, first: Iterable[Finding]) -> Iterator[str]:
-        for finding in first:
-            yield f"SUMMARY: asancol: {finding.class_name} {self.place_of(finding.top)}"
+    def last_line(self, counted: List[Finding]) -> Iterator[str]:
+        """The first of what counts, or the total of leaks, if only these do, as AddressSanitizer has it."""
+        lost = total(finding.lost for finding in counted if finding.is_leak)
+        if counted and all(finding.is_leak and finding.lost.blocks for finding in counted):
+            yield f"SUMMARY: asancol: {lost.bytes} byte(s) leaked in {lost.blocks} allocation(s)"
+        elif counted:
+            yield f"SUMMARY: asancol: {counted[0].class_name} {self.place_of(counted[0].top)}"
 
     def crashes(self, results: Results, processes: Iterable[Process]) -> Iterator[str]:
         """Where processes were when signals ended them. It is no report. What may follow from one has no stack."""
@@ -273,7 +298,7 @@ class Text:
             yield from self.stack(stack, next(iter(own_calls(stack)), None))
             yield from self.threads(those[0].threads)
             named = {id(it): it for it in map(results.crash_of, those) if it} if self.has_suppressions else {}
-            yield from (f"  suppression: {printable(suppression_of(it, self.root))}" for it in named.values())
+            yield from (f"  suppression: {printable(suppression_of(it, self.rule_root))}" for it in named.values())
 
     @staticmethod
     def run_name(run: Run, results: Results) -> str:
@@ -359,8 +384,6 @@ def totals_line(results: Results) -> str:
     reports = "no reports"
     if totals.places:
         reports = f"{plural(totals.reports, 'report')} at {plural(totals.places, 'place')}"
-    if totals.by_recorder:
-        reports += f" ({totals.by_recorder} {BY_RECORDER})"
     if totals.suppressed:
         reports += f", {totals.suppressed} suppressed"
     if totals.known:

@@ -1,6 +1,7 @@
 """Forms for editors and for pages of CI: lines as GCC's, annotations of GitHub, Markdown; and what each level is."""
 
 import json
+import os
 import re
 from typing import Any, Dict, List
 
@@ -43,7 +44,7 @@ def lines_of_gcc(folder: str) -> None:
     expect((ran.status, ran.err), (1, ""), "status")
     expect(without_columns(re.sub(r"(SUMMARY.*):\d+ in", r"\1 in", ran.out)), WANTED_LINES, "lines")
     expect_in(report(folder, "--trace", "a.trace", "--format=gcc", "--gen-suppressions").out,
-              "note: suppression: at:heap-buffer-overflow:drop@program.c\n")
+              f"note: suppression: at:heap-buffer-overflow:drop@{os.path.basename(folder)}/program.c\n")
     leaking_trace(folder)
     expect_in(without_columns(report(folder, "--trace", "leak.trace", "--format=gcc").out),
               "program.c:10: warning: detected memory leaks: Direct leak of 48 byte(s) in 3 object(s) in make")

@@ -52,30 +52,27 @@ def one_of_each(places: Dict[str, int]) -> List[bytes]:
 
 
 TITLES = (
-    "alloc-dealloc-mismatch: malloc vs operator delete (by the recorder)",
-    "new-delete-type-mismatch: operator delete of 4 bytes, and 40 bytes were allocated (by the recorder)",
-    "memcpy-param-overlap: memory ranges [0x2004, 0x200c) and [0x2000, 0x2008) overlap (by the recorder)",
-    "negative-size-param: (size=-5) in memmove (by the recorder)",
-    "calloc-overflow: 5 * 4611686018427387904 bytes are more than a size can say (by the recorder)",
-    "pvalloc-overflow: 18446744073709551611 bytes, rounded up to a page, are more than a size can say "
-    "(by the recorder)",
-    "invalid-aligned-alloc-alignment: alignment 7 of 16 bytes in aligned_alloc (by the recorder)",
-    "invalid-posix-memalign-alignment: alignment 2 of 16 bytes in posix_memalign (by the recorder)",
-    "new-delete-type-mismatch: operator delete with alignment 64, and 40 bytes with no alignment were allocated "
-    "(by the recorder)",
-    "allocation-size-too-big: request for 1152921504606846976 bytes (by the recorder, 2 times, 1 process)",
-    "bad-malloc_usable_size: malloc_usable_size of a pointer to no block (by the recorder)",
-    "bad-__sanitizer_get_allocated_size: __sanitizer_get_allocated_size of a pointer to no block (by the recorder)",
-    "bad-__sanitizer_annotate_contiguous_container: 0x2041 is not in the container's memory [0x2000, 0x2040) "
-    "(by the recorder)",
+    "alloc-dealloc-mismatch: malloc vs operator delete",
+    "new-delete-type-mismatch: operator delete of 4 bytes, and 40 bytes were allocated",
+    "memcpy-param-overlap: memory ranges [0x2004, 0x200c) and [0x2000, 0x2008) overlap",
+    "negative-size-param: (size=-5) in memmove",
+    "calloc-overflow: 5 * 4611686018427387904 bytes are more than a size can say",
+    "pvalloc-overflow: 18446744073709551611 bytes, rounded up to a page, are more than a size can say",
+    "invalid-aligned-alloc-alignment: alignment 7 of 16 bytes in aligned_alloc",
+    "invalid-posix-memalign-alignment: alignment 2 of 16 bytes in posix_memalign",
+    "new-delete-type-mismatch: operator delete with alignment 64, and 40 bytes with no alignment were allocated",
+    "allocation-size-too-big: request for 1152921504606846976 bytes (2 times, 1 process)",
+    "bad-malloc_usable_size: malloc_usable_size of a pointer to no block",
+    "bad-__sanitizer_get_allocated_size: __sanitizer_get_allocated_size of a pointer to no block",
+    "bad-__sanitizer_annotate_contiguous_container: 0x2041 is not in the container's memory [0x2000, 0x2040)",
     "bad-__sanitizer_annotate_double_ended_contiguous_container: 0x1fff is not in the container's memory "
-    "[0x2000, 0x2040) (by the recorder)",
-    "invalid-pointer-pair: 0x2000 and 0x3000 (by the recorder)",
-    "out-of-memory: request for 549755813888 bytes, and there is no memory (by the recorder)",
-    "odr-violation: global 'shared' of 80 bytes at one.c:7, and of 40 bytes at an unknown place (by the recorder)",
-    "bad-shadow: the shadow byte of 0x2010 is 00, and should be fa (by the recorder)",
-    "detected memory leaks (by the recorder)",
-    "detected memory leaks (by the recorder)",
+    "[0x2000, 0x2040)",
+    "invalid-pointer-pair: 0x2000 and 0x3000",
+    "out-of-memory: request for 549755813888 bytes, and there is no memory",
+    "odr-violation: global 'shared' of 80 bytes at one.c:7, and of 40 bytes at an unknown place",
+    "bad-shadow: the shadow byte of 0x2010 is 00, and should be fa",
+    "detected memory leaks",
+    "detected memory leaks",
 )
 
 
@@ -88,7 +85,7 @@ def each_kind(folder: str) -> None:
     expect(ran.status, 1, ran.err)
     titles = re.findall(r"^==7==ERROR: asancol: (.*)$", ran.out, re.M)
     expect(titles, list(TITLES), "titles, in the order of what came before")
-    expect_in(ran.out, "asancol: 21 reports at 20 places (21 by the recorder); 1 process, 9 events; all complete\n",
+    expect_in(ran.out, "asancol: 21 reports at 20 places; 1 process, 9 events; all complete\n",
               "0x2000 is byte 0 of a block of 40 bytes\n  allocated at\n", "in make ",
               "0x2004 is byte 4 of a block of 16", "0x2000 is byte 0 of a freed block of 16 bytes",
               "\nDirect leak of 24 byte(s) in 3 object(s) allocated from:\n    #0 ",
@@ -125,7 +122,7 @@ def alignments(folder: str) -> None:
     ):
         write_trace(folder, "a.trace", CLEAN, of_program(program, [it], (), findings=1))
         ran = report(folder, "--trace", "a.trace")
-        expect_in(ran.out, f"==7==ERROR: asancol: {title} (by the recorder)\n")
+        expect_in(ran.out, f"==7==ERROR: asancol: {title}\n")
         expect_in(ran.out, *["0x2000 is byte 0 of a block of 40 bytes\n"] * (of_new in title))
 
 
@@ -136,8 +133,8 @@ def write_two(folder: str) -> None:
                        findings=1)
     write_trace(folder, "a.trace", FREED + END, parts)
     ran = report(folder, "--trace", "a.trace", "--gen-suppressions", *(f"--{name}=a.{name}" for name in FORMS))
-    expect_in(ran.out, "3 reports at 2 places (2 by the recorder); 1 process",
-              "ERROR: asancol: heap-use-after-free: load of 4 bytes\n", "(by the recorder, 2 times, 1 process)\n",
+    expect_in(ran.out, "3 reports at 2 places; 1 process",
+              "ERROR: asancol: heap-use-after-free: load of 4 bytes\n", "(2 times, 1 process)\n",
               "suppression: at:alloc-dealloc-mismatch:drop@")
 
 
@@ -151,19 +148,17 @@ def each_output(folder: str) -> None:
     write_two(folder)
     sarif = json.loads(text_of(folder, "a.sarif"))["runs"][0]
     expect([it["properties"].get("by") for it in sarif["results"]], [None, "recorder"], "SARIF")
-    expect_in(sarif["results"][1]["message"]["text"], "malloc vs operator delete, byte 0 of a block of 40",
-              "(by the recorder)")
+    expect_in(sarif["results"][1]["message"]["text"], "malloc vs operator delete, byte 0 of a block of 40")
     expect_in(str(sarif["tool"]["driver"]["rules"]), "alloc-dealloc-mismatch", "does not match its allocation")
     entries = json.loads(text_of(folder, "a.codequality"))
-    expect([it["description"].endswith("(by the recorder)") for it in entries], [False, True], "Code Quality")
+    expect(["malloc vs operator delete" in it["description"] for it in entries], [False, True], "Code Quality")
     (case,) = xml.dom.minidom.parse(f"{folder}/a.junit").getElementsByTagName("failure")
     expect_in(case.getAttribute("message"),
-              "alloc-dealloc-mismatch: malloc vs operator delete (by the recorder) in drop")
-    expect_in(case.firstChild.data, "(by the recorder, 2 times, 1 process)")  # type: ignore[union-attr]
+              "alloc-dealloc-mismatch: malloc vs operator delete in drop")
+    expect_in(case.firstChild.data, "(2 times, 1 process)")  # type: ignore[union-attr]
     page = text_of(folder, "a.html")
-    expect(page.count("(by the recorder)</span>"), 1, "the page's titles")
     expect(page.count("the checker did not judge it"), 1, "the page's sentences")
-    expect_in(page, "except those marked")
+    expect_in(page, "except those that say")
     process = next(it for it in map(json.loads, text_of(folder, "a.json").splitlines()) if it["type"] == "process")
     expect((process["reports"], process["findings"]), (1, 1), "a process")
 
@@ -182,8 +177,8 @@ def rules(folder: str) -> None:
         ("a.json", "fun:^make$", 0, "no reports, 3 suppressed;"),
         ("a.json", "*:program", 0, "no reports, 3 suppressed;"),
         ("b.json", "leak:program", 0, "no reports, 2 suppressed;"),
-        ("b.json", "indirect-leak:program", 1, "1 report at 1 place (1 by the recorder), 1 suppressed;"),
-        ("b.json", "at:leak:make", 1, "1 report at 1 place (1 by the recorder), 1 suppressed;"),
+        ("b.json", "indirect-leak:program", 1, "1 report at 1 place, 1 suppressed;"),
+        ("b.json", "at:leak:make", 1, "1 report at 1 place, 1 suppressed;"),
         ("b.json", "alloc-dealloc-mismatch:*", 1, "a suppression matched nothing"),
     ):
         with open(f"{folder}/rules", "w", encoding="utf-8") as file:
@@ -201,13 +196,13 @@ def rules(folder: str) -> None:
         expect((again.status, again.out), (0, ran.out), "read again")
         expect_in(report(folder, "c.json", "--format=asan").out, "; ASAN_OPTIONS=detect_leaks=1 shows them\n")
     ran = report(folder, "--trace", "b.trace")
-    expect((ran.status, "2 reports at 2 places (2 by the recorder)" in ran.out), (1, True), ran.out)
+    expect((ran.status, "2 reports at 2 places" in ran.out), (1, True), ran.out)
     ran = report(folder, "--trace", "b.trace", "--leaks=no")
     expect((ran.status, "leak" in ran.out), (0, False), ran.out)
     ran = report(folder, "b.json", "a.json", "--baseline", "a.json")
-    expect_in(ran.out, "2 reports at 2 places (2 by the recorder), 2 places known from the baseline")
+    expect_in(ran.out, "2 reports at 2 places, 2 places known from the baseline")
     ran = report(folder, "a.json", "b.json", "--baseline", "b.json")
-    expect_in(ran.out, "3 reports at 2 places (2 by the recorder), 2 places known from the baseline")
+    expect_in(ran.out, "3 reports at 2 places, 2 places known from the baseline")
 
 
 @report_test
@@ -220,8 +215,8 @@ def merged_processes(folder: str) -> None:
         feed.process(number, CLEAN, parts, findings=1, reports=0)
     ran = feed.end()
     expect(ran.status, 1, "the status")
-    expect_in(ran.out, "(by the recorder, 6 times, 3 processes)",
-              "6 reports at 1 place (6 by the recorder); 3 processes")
+    expect_in(ran.out, "(6 times, 3 processes)",
+              "6 reports at 1 place; 3 processes")
     feed = Feed(folder)
     feed.begin("run-2")
     feed.process(0, findings=1)
@@ -236,8 +231,8 @@ def segments_of_a_process(folder: str) -> None:
     for segment in (2, 1):
         parts = of_program(program, [mismatch(program.places, after=segment)], (), findings=1, segment=segment)
         feed.process(0, CLEAN, parts, findings=2, reports=0, segment=segment, segments=2)
-    expect_in(feed.end().out, "(by the recorder, 2 times, 1 process)",
-              "2 reports at 1 place (2 by the recorder); 1 process")
+    expect_in(feed.end().out, "(2 times, 1 process)",
+              "2 reports at 1 place; 1 process")
     found = next(it for it in map(json.loads, text_of(folder, "a.json").splitlines()) if it["type"] == "finding")
     expect((found.get("segment"), found["after"]), (None, 1), "the first of them")
 
@@ -309,7 +304,7 @@ def leaking(folder: str, name: str, *lost: Tuple[int, int]) -> None:
 
 
 def leaks_in(text: str) -> List[str]:
-    return re.findall(r"memory leaks (.*)\n(.*) allocated from:$", text, re.M)
+    return re.findall(r"memory leaks ?(.*)\n(.*) allocated from:$", text, re.M)
 
 
 @report_test
@@ -318,8 +313,8 @@ def leaks_of_runs(folder: str) -> None:
     leaking(folder, "all", (24, 3), (40, 1), (8, 2))
     leaking(folder, "one", (24, 3))
     leaking(folder, "two", (40, 1), (8, 2))
-    wanted = [("(by the recorder, 3 times, 3 processes)", "Direct leak of 72 byte(s) in 6 object(s)"),
-              ("(by the recorder, 3 times, 3 processes)", "Indirect leak of 36 byte(s) in 6 object(s)")]
+    wanted = [("(3 times, 3 processes)", "Direct leak of 72 byte(s) in 6 object(s)"),
+              ("(3 times, 3 processes)", "Indirect leak of 36 byte(s) in 6 object(s)")]
     for names in (["all"], ["all", "all"], ["one", "two"], ["two", "one", "two"]):
         ran = report(folder, *(f"{it}.json" for it in names), "--json", "again.json", "--html=page", "--sarif=sarif")
         expect(leaks_in(ran.out), wanted, str(names))
@@ -349,11 +344,11 @@ def leaks_through_one_function(folder: str) -> None:
     parts = of_program(program, lost, (), findings=len(lost), stacks=stacks)
     write_trace(folder, "a.trace", CLEAN, parts)
     ran = report(folder, "--trace", "a.trace", "--leaks=yes", "--json", "a.jsonl")
-    wanted = [("(by the recorder)", f"{kind} leak of {size} byte(s) in 1 object(s)")
+    wanted = [("", f"{kind} leak of {size} byte(s) in 1 object(s)")
               for kind, size in (("Direct", 24), ("Direct", 40), ("Indirect", 8), ("Direct", 7))]
     expect(leaks_in(ran.out), wanted, "of a trace")
     write_text(f"{folder}/b.jsonl", re.sub(r'"id":"[^"]*"', '"id":"b"', text_of(folder, "a.jsonl")))
-    twice = [("(by the recorder, 2 times, 2 processes)", f"{kind} leak of {2 * size} byte(s) in 2 object(s)")
+    twice = [("(2 times, 2 processes)", f"{kind} leak of {2 * size} byte(s) in 2 object(s)")
              for kind, size in (("Direct", 24), ("Direct", 40), ("Indirect", 8), ("Direct", 7))]
     expect(leaks_in(report(folder, "a.jsonl", "b.jsonl").out), twice, "of two results")
     cases: Dict[str, List[int]] = {"leak:^use$": [1, 2, 3], "leak:^drop$": [0, 3], "leak:^make$": []}

@@ -130,8 +130,7 @@ def reports_stand_at_own_lines(folder: str) -> None:
     with open(f"{folder}/out.json", encoding="utf-8") as file:
         expect({entry["location"]["path"] for entry in json.load(file)}, {"program.c"}, "places")
     again = report(folder, "a.jsonl", "--json", "b.jsonl")
-    expect((again.status, again.out), (1, ran.out.replace("usr/include", f"{folder}/usr/include")
-                                        .replace(" program.c", f" {folder}/program.c")), "read again")
+    expect((again.status, again.out), (1, ran.out), "read again")
     with open(f"{folder}/a.jsonl", "rb") as one, open(f"{folder}/b.jsonl", "rb") as other:
         expect(one.read(), other.read(), "both files")
 

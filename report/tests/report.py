@@ -23,6 +23,8 @@ WANTED_TEXT = """\
   0x2005 is 0 bytes past the end of a block of 5 bytes
   allocated at
     #0 AT in make program.c:10
+  hint: Compare the index or length at the access with the size given to the allocation: often an
+    element or the final zero byte has no room.
 
 ==7==ERROR: asancol: heap-use-after-free: load of 4 bytes (3 times, 1 process)
     #0 AT in use program.c:7 (inlined)
@@ -33,6 +35,8 @@ WANTED_TEXT = """\
     #0 AT in make program.c:10
   freed at
     #0 AT in drop program.c:14
+  hint: Compare the stack of the free with that of the access: either the block was freed too early,
+    or the pointer at the access was kept too long.
 
 asancol: 4 reports at 2 places; 1 process, 9 events; all complete
 SUMMARY: asancol: heap-buffer-overflow program.c:14 in drop

@@ -279,3 +279,46 @@ def fifty_places_are_shown(folder: str) -> None:
     feed.process(0, lines + END, side(faults=faults, index=range(1, 61)))
     ran = feed.end()
     expect((ran.out.count("ERROR"), ran.out.count("10 more places are not shown")), (50, 1), "while it runs")
+
+
+@report_test
+def frames_of_tests_are_one_line(folder: str) -> None:
+    """Those of frameworks, of headers of C++ where a local type leaves no scope, and those that the user hides."""
+    run = "void testing::internal::HandleExceptionsInMethodIfSupported<testing::Test, void>(testing::Test*)"
+    expect(stack_of(folder, ["use", run, "testing::Test::Run()", "testing::UnitTest::Run()", "caller"])[1:],
+           [".. 3 frames of googletest", "#4 caller /x/a.c:3"], "googletest")
+    expect(stack_of(folder, ["use", "Catch::TestCaseHandle::invoke() const", "Catch::Session::run()", "caller"])[1],
+           ".. 2 frames of Catch2", "Catch2")
+    expect(stack_of(folder, ["use", "UnityDefaultTestRun@/x/unity.c", "main_runner@/x/unity.c", "caller"])[1],
+           ".. 2 frames of Unity", "Unity")
+    invoked = f"__invoke_impl<void, main()::<lambda()>&>@{HEADER}"
+    expect(stack_of(folder, ["use", invoked, invoked.replace("_impl", "_r"), "caller"])[1], ".. 2 frames of std::",
+           "a lambda")
+    expect(stack_of(folder, ["use", "Suite_Test::TestBody()", "testing_own()", "caller"])[1:3],
+           ["#1 Suite_Test::TestBody() /x/a.c:3 (inlined)", "#2 testing_own() /x/a.c:3 (inlined)"], "own")
+    names = ["use", "app::loop::run()", "app::loop::step()", "other", "app::loop::one()", "caller"]
+    expect(stack_of(folder, names, "--hide-frames=^app::loop::*", "--hide-frames", "/nothing.c$")[1:],
+           [".. 2 frames of ^app::loop::*", "#3 other /x/a.c:3 (inlined)", ".. 1 frame of ^app::loop::*",
+            "#5 caller /x/a.c:3"], "hidden")
+    expect(len(stack_of(folder, names, "--hide-frames=^app::loop::*", "--full-stacks")), len(names), "all frames")
+
+
+@report_test
+def paths_are_below_the_current_folder(folder: str) -> None:
+    """Also without --source-root. Suppressions and AddressSanitizer's text have them as they were."""
+    one_trace(folder)
+    ran = report(folder, "--trace", "a.trace", "--gen-suppressions")
+    expect_in(ran.out, "in use program.c:7", f"suppression: at:heap-buffer-overflow:drop@{os.path.basename(folder)}/")
+    expect_in(report(folder, "--trace", "a.trace", "--format=asan").out, f"in use {folder}/program.c:7")
+
+
+@report_test
+def hints_are_in_the_text(folder: str) -> None:
+    """Once for each class."""
+    faults = [fault(0x1000 + 64 * number, 0x2000 + 0x1000 * number, 5) for number in range(3)]
+    lines = "".join(OVERFLOW.replace("#2", f"#{n + 1}").replace("2005", f"{0x2005 + 0x1000 * n:x}") for n in range(3))
+    write_trace(folder, "a.trace", lines + END, side(faults=faults, index=[1, 2, 3]))
+    ran = report(folder, "--trace", "a.trace")
+    hint = "  hint: Compare the index or length at the access"
+    expect((ran.out.count("ERROR"), ran.out.count(hint)), (3, 1), ran.out)
+    expect_not_in(report(folder, "--trace", "a.trace", "--format=asan").out, "hint: ")

@@ -60,8 +60,8 @@ def check_bare(suite: Suite, folder: str, compiler: str) -> None:
     expect(summary is not None, True, ran.err)
     caller = re.search(r"#1 .* in main .*main\.c:10:\d+\n +10 \| int found = session_user", ran.err)
     expect(caller is not None, True, ran.err)
-    again = call([REPORT, f"{folder}/a.jsonl"], capture_output=True, text=True, check=False).stdout
-    expect_in(ran.err, again)
+    again = call([REPORT, f"{folder}/a.jsonl"], capture_output=True, text=True, check=False, cwd=folder).stdout
+    expect_in(again, "/program+0x", "in main main.c:10:", "asancol: session_user and 1 more function in ")
 
 
 def check_newer(suite: Suite, folder: str, compiler: str) -> None:

@@ -55,13 +55,13 @@ def check_each_end(suite: Suite, folder: str) -> None:
     """However the process ends, the findings are there, and its status."""
     program = built(folder)
     for argv, texts in (
-        (["once"], ["1 report at 1 place (1 by the recorder); 1 process", "all complete"]),
-        (["once", "3"], [": 3 times, 1 process\n", "3 reports at 1 place (3 by the recorder)"]),
-        (["fork"], ["2 reports at 1 place (2 by the recorder); 2 processes"]),
+        (["once"], ["1 report at 1 place; 1 process", "all complete"]),
+        (["once", "3"], [": 3 times, 1 process\n", "3 reports at 1 place;"]),
+        (["fork"], ["2 reports at 1 place; 2 processes"]),
         (["exec"], [": 2 times, 2 processes\n", "2 processes"]),
-        (["bad"], ["heap-buffer-overflow: store of 1 byte\n", "2 reports at 2 places (1 by the recorder)"]),
-        (["crash"], ["1 report at 1 place (1 by the recorder)", "1 crashed"]),
-        (["killed"], ["1 report at 1 place (1 by the recorder)", "1 ended abruptly"]),
+        (["bad"], ["heap-buffer-overflow: store of 1 byte\n", "2 reports at 2 places;"]),
+        (["crash"], ["1 report at 1 place;", "1 crashed"]),
+        (["killed"], ["1 report at 1 place;", "1 ended abruptly"]),
     ):
         expect_ran(run_real(suite, "--leaks=no", "--", program, *argv), 99, TITLE, "in overlap ", *texts)
     expect_ran(run_real(suite, "--exitcode", "7", "-q", "--", program, "once"), 7, TITLE)
@@ -72,7 +72,7 @@ def check_each_end(suite: Suite, folder: str) -> None:
 def check_segments(suite: Suite, folder: str) -> None:
     ran = run_real(suite, "--json", f"{folder}/a.jsonl", "--", built(folder), "segments", ASANCOL_LIMIT="1000",
                    ASANCOL_FULL="1")
-    expect_ran(ran, 99, "2 reports at 1 place (2 by the recorder); 1 process", "all complete")
+    expect_ran(ran, 99, "2 reports at 1 place; 1 process", "all complete")
     with open(f"{folder}/a.jsonl", encoding="utf-8") as file:
         lines = [json.loads(line) for line in file]
     process, = (it for it in lines if it["type"] == "process")
