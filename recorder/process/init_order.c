@@ -7,8 +7,6 @@
 #include <stdbool.h>
 
 #include "base/tables.h"
-#include "environment/settings.h"
-#include "process/process.h"
 #include "shadow/globals.h"
 #include "shadow/shadow.h"
 #include "stream/state.h"
@@ -53,10 +51,17 @@ static void show(const struct global *global, void *unused)
 /* A library is opened, whose files use the program's, or a thread is created: either ends the strict order. */
 static _Atomic bool is_over;
 
+/* By the settings; written at the start. */
+static int asked_for;
+
+void init_order_begin(int level)
+{
+    asked_for = level;
+}
+
 static int wanted(void)
 {
-    bool is_wanted = is_on() || atomic_load(&halt_is_on);
-    int level = is_wanted ? recorder_settings()->init_order : 0;
+    int level = is_on() || atomic_load(&halt_is_on) ? asked_for : 0;
     return level == STRICT && is_over ? 0 : level;
 }
 

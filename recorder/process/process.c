@@ -19,6 +19,7 @@
 #include "process/preload_choice.h"
 #include "environment/dormant.h"
 #include "environment/orphan.h"
+#include "process/init_order.h"
 #include "process/own_run.h"
 #include "process/run_connection.h"
 #include "process/showing.h"
@@ -190,6 +191,7 @@ void recorder_start(void)
     if (settings_hub() == NULL)
         orphan_ask();
     settings_read(&process.settings);
+    init_order_begin(process.settings.init_order);
     process.pattern = process.settings.trace;
     bool wanted = output_name() != NULL;
     own_run_say();

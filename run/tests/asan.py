@@ -278,7 +278,7 @@ def check_words_come_first(suite: Suite, folder: str) -> None:
     write_text(f"{folder}/e.c", ENDING)
     call([f"{TOP}/recorder/asancol-cc", "-g", "-w", "e.c", "-o", "e"], cwd=folder, check=True)
     halts = {"ASANCOL_HALT": "1", "ASANCOL_REPORT": REPORT}
-    for ran in (suite.run("--", f"{folder}/e", **halts), suite.run("-q", "--live", "--", f"{folder}/e", **halts),
+    for ran in (suite.run("--", f"{folder}/e", **halts), suite.run("-q", "--live=exit", "--", f"{folder}/e", **halts),
                 suite.run_argv([f"{folder}/e"], ASANCOL_RUN=RUN, **halts)):
         expect((ran.err.count(HALTED), ran.err.count(" in past /")), (1, 1), ran.err)
         expect(ran.err.index(HALTED) < ran.err.index("==ABORTING") < ran.err.index("it ends"), True, ran.err)
