@@ -235,8 +235,8 @@ class Symbols:
 
     def ask_resident(self, wanted: List[Module]) -> None:
         """Looks up the addresses that the resident one knows, and leaves the rest."""
-        for module in wanted:
-            names = self.resident.ask(module) if self.resident and module.is_same_still() else None
+        for module in filter(Module.is_same_still, wanted):
+            names = self.resident.ask(module) if self.resident else None
             if names is None:
                 self.end_stay()
                 return

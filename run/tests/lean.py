@@ -31,7 +31,7 @@ SHADOW = re.compile(r"^(?:=>| +)0x2[0-9a-f]{11}:.*\n", re.M)
 def said_of(suite: Suite, argv: List[str], full: str, quarantine: str = "") -> str:
     """The text of a run, without the numbers of processes and events. Its addresses are the same each time, but
     those of blocks depend on the recording: each has its number in the order of appearance."""
-    ran = suite.run("--shadow", "--full-stacks", "--leaks=yes", "--", "setarch", "-R", *argv,
+    ran = suite.run("--live=end", "--shadow", "--full-stacks", "--leaks=yes", "--", "setarch", "-R", *argv,
                     ASANCOL_REPORT=REPORT, ASANCOL_QUARANTINE=quarantine, ASANCOL_FULL=full)
     text = re.sub(r"==\d+==|\b(?:process|PID) \d+|\d+ events", "", ran.err)
     if argv[1:] in THREADS:
