@@ -158,7 +158,7 @@ static bool begin(uint64_t most_held)
     switch_checks(&process.settings);
     if (!open_stream())
         return false;
-    show_begin();
+    show_begin(&process.settings);
     heap_set_bound(process.settings.quarantine);
     heap_release_down_to_bound();
     heap_snapshot(most_held, stream_snapshot_room());

@@ -20,7 +20,6 @@
 #include "environment/asking.h"
 #include "environment/hub_names.h"
 #include "environment/settings.h"
-#include "process/process.h"
 #include "stacks/unwinding.h"
 #include "stream/sending.h"
 #include "stream/side.h"
@@ -36,10 +35,12 @@ static _Atomic uint64_t places[PLACES]; /* 0: a free one */
 static _Atomic uint32_t showing;        /* the number of a thread; 0: none */
 static _Atomic unsigned shown, failures;
 
-void show_begin(void)
+static const struct settings *settings; /* written with the flag, before there is another thread */
+
+void show_begin(const struct settings *of_process)
 {
-    const struct settings *settings = recorder_settings();
-    bool is_wanted = settings->is_live && is_hub() && !recorder_halts() && asan_options_log()[0] == 0;
+    settings = of_process;
+    bool is_wanted = settings->is_live && is_hub() && settings->halt == HALT_NEVER && asan_options_log()[0] == 0;
     for (size_t i = 0; is_wanted && i < PLACES; i++)
         atomic_store_explicit(&places[i], 0, memory_order_relaxed);
     atomic_store(&showing, 0);
@@ -177,7 +178,8 @@ static bool show(const struct told *told, const struct stat *file, int64_t until
     put_request(&request, told, file);
     if (patience_ms <= 0 || !stream_send_events(told->event, &patience_ms))
         return false;
-    int connection = ask_begin(recorder_hub(), text, true, &patience_ms);
+    const char *hub = settings->hub != NULL ? settings->hub : settings->passed_over;
+    int connection = ask_begin(hub, text, true, &patience_ms);
     if (connection < 0)
         return false;
     bool is_done = print_words(connection, until);
@@ -208,7 +210,7 @@ void show_report(const struct told *told)
     size_t at = find(key);
     if (at == PLACES || atomic_load_explicit(&places[at], memory_order_relaxed) == key)
         return;
-    if (recorder_halts() || !recorder_is_own_process() || !add(key))
+    if (settings->halt != HALT_NEVER || !recorder_is_own_process() || !add(key))
         return;
     int error = errno;
     int64_t until = clock_ms() + (atomic_load(&shown) == 0 ? FIRST_PATIENCE_MS : PATIENCE_MS);

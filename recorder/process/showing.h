@@ -7,10 +7,11 @@
 #ifndef ASANCOL_SHOWING_H
 #define ASANCOL_SHOWING_H
 
+#include "environment/settings.h"
 #include "stream/telling.h"
 
 /* Shows reports from now on, if the settings want it: those of this process, which may be a forked child. */
-void show_begin(void);
+void show_begin(const struct settings *of_process);
 /* Prints the report, unless one of this place was printed. The thread waits for it, but not for ever: the run prints at
    its end whatever was not printed here. */
 void show_report(const struct told *told);
