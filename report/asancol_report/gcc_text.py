@@ -2,7 +2,7 @@
 
 from __future__ import annotations
 
-from typing import Iterable, Iterator
+from typing import Iterable, Iterator, Sequence
 
 from .alerts import level_of, steps_of
 from .findings import Finding, Frame, own_frames
@@ -18,7 +18,7 @@ NOTE = "note"
 class GccText(Text):
     """Writes findings as GCC writes errors: each line begins with its place."""
 
-    def finding(self, finding: Finding, times: bool = True, seen: str = "") -> Iterator[str]:
+    def finding(self, finding: Finding, times: bool = True, notes: Sequence[str] = ()) -> Iterator[str]:
         top, near = finding.top, f", {finding.where}" if finding.where else ""
         words = finding.title + finding.threads.where(finding.threads.access) + function_of(top) + near
         if times and finding.count > 1:
@@ -33,8 +33,8 @@ class GccText(Text):
         if finding.later and not self.has_all_places:
             later = plural(len(finding.later), "later report")
             yield self.line(top, NOTE, f"{later} of this process may follow from this")
-        if seen:
-            yield self.line(top, NOTE, seen)
+        for note in notes:
+            yield self.line(top, NOTE, note)
         if self.has_suppressions:
             yield self.line(top, NOTE, f"suppression: {suppression_of(finding, self.rule_root) or 'none'}")
 

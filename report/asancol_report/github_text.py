@@ -2,7 +2,7 @@
 
 from __future__ import annotations
 
-from typing import Dict, Iterable, Iterator, List
+from typing import Dict, Iterable, Iterator, List, Sequence
 
 from .alerts import ERROR, level_of, place_below
 from .crashes import Crash
@@ -32,8 +32,8 @@ def annotation(level: str, message: str, **properties: object) -> str:
 class GithubText(Text):
     """Writes each finding as one annotation: the text is its message, which stands in the log, too."""
 
-    def finding(self, finding: Finding, times: bool = True, seen: str = "") -> Iterator[str]:
-        yield self.annotation(finding, [*super().finding(finding, times, seen)][:-1])
+    def finding(self, finding: Finding, times: bool = True, notes: Sequence[str] = ()) -> Iterator[str]:
+        yield self.annotation(finding, [*super().finding(finding, times, notes)][:-1])
 
     def annotation(self, finding: Finding, lines: List[str]) -> str:
         frame = place_below(self.root, finding)

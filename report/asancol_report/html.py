@@ -25,7 +25,7 @@ from .side import GRANULE
 from .source_url import SourceUrl
 from .sources import Sources
 from .suppressions import suppression_of
-from .text import Colors, seen_text, Text, totals_line, unchecked_text, variables_text
+from .text import Colors, notes_on, seen_text, Text, totals_line, unchecked_text, variables_text
 from .words import command_line, plural, printable, shown_path
 
 PAGE = os.path.join(os.path.dirname(os.path.abspath(__file__)), "page.html")
@@ -179,6 +179,7 @@ class Page:
             + tag("span", tag("b", number(finding.count) + "×") + " " + tag("span", times), class_="count")
             + tag("span", function + tag("code", escape(place)), class_="place")
             + (tag("span", escape(finding.where), class_="near") if finding.where else "")
+            + self.whose(finding)
         )
         kinds = ["card", *["quiet"] * (not finding.counts), *["small"] * finding.is_consequence]
         body = "".join(self.stacks(finding)) + self.as_text(finding) + self.foot(finding)
@@ -187,6 +188,13 @@ class Page:
                    data_count=finding.count, data_position=position,
                    data_file=shown_path(top.file or top.module, self.root), data_line=top.line,
                    data_counts=int(finding.counts)) + "\n"
+
+    def whose(self, finding: Finding) -> str:
+        """Returns which command line the process has, if there are several."""
+        process = self.results.first_process(finding)
+        if process is None or not process.command or not self.results.has_several_commands():
+            return ""
+        return tag("span", "process " + tag("code", escape(self.command_of(process))), class_="near")
 
     def words(self, finding: Finding, place: str) -> str:
         """Returns where the filter looks for words: each function, file and module of all frames is there once."""
@@ -227,7 +235,7 @@ class Page:
         if isinstance(finding, Crash):
             lines = list(self.text.crashes(self.results, self.crashed.get(finding, [])))
         else:
-            lines = list(self.text.finding(finding, seen=seen_text(self.results, finding)))[:-1]
+            lines = list(self.text.finding(finding, notes=notes_on(self.results, finding)))[:-1]
         return folded("As text", lines, "text")
 
     @staticmethod

@@ -14,7 +14,7 @@ from .options import Options
 from .results import Process, Results
 from .source_url import SourceUrl
 from .sources import Sources
-from .text import abrupt_lines, Colors, incomplete_lines, MAX_PLACES, seen_text, Text, totals_line
+from .text import abrupt_lines, Colors, incomplete_lines, MAX_PLACES, notes_on, seen_text, Text, totals_line
 from .words import plural, printable, shown_path, whole_characters
 
 # GitHub shows no more than 1 MiB.
@@ -77,7 +77,7 @@ class Markdown:
     def lines(self, finding: Finding) -> List[str]:
         if isinstance(finding, Crash):
             return list(self.text.crashes(self.results, self.crashed_at(finding)))
-        return list(self.text.finding(finding))[:-1]
+        return list(self.text.finding(finding, notes=notes_on(self.results, finding)))[:-1]
 
     def crashed_at(self, crash: Crash) -> List[Process]:
         return [it for it in self.results.crashes() if self.results.crash_of(it) is crash]

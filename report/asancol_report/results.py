@@ -12,7 +12,7 @@ from .crashes import Crash, CRASH_CLASSES, CRASHES, end_text, line_of_crash
 from .findings import Finding, MAX_NUMBERS, Place, Stack, Tally, Threads
 from .leaks import at_one_place, Leaks, total
 from .sources import Sources
-from .words import plural, signal_name
+from .words import command_line, plural, signal_name
 
 # What a run lists for the options of AddressSanitizer that turned checks off begins so (common/format.h).
 CHECKS_TURNED_OFF = "checks turned off by "
@@ -46,6 +46,11 @@ class Process(NamedTuple):
     used_again: int = 0  # how many bytes of blocks it had handed out when freed memory came again; 0: it never has
     has_halted: bool = False  # it has ended itself at its first report, by ASANCOL_HALT
     is_unsaid: bool = False  # and has left it to its run to print that
+
+    @property
+    def name(self) -> str:
+        """Its command line."""
+        return command_line(self.command)
 
     @property
     def is_crash(self) -> bool:
@@ -168,6 +173,7 @@ class Results:
         self.bases: Dict[Tuple[int, int], Dict[str, int]] = {}
         self.has_addresses = False
         self.has_log = False  # each process has a file of its own
+        self.are_several: Optional[bool] = None  # command lines; None: nobody has asked
         self.runs_counted = 0  # of which `commands` has the commands
         self.commands: Counter[Tuple[str, ...]] = Counter()
 
@@ -278,6 +284,14 @@ class Results:
             self.runs_counted = len(self.runs)
             self.commands = Counter(run.command for run in self.runs)
         return self.commands
+
+    def has_several_commands(self) -> bool:
+        """Whether the processes have several command lines, as those of a suite have. It is asked at the end."""
+        if self.are_several is None:
+            commands = (process.command for run in self.runs for process in run.processes.values() if process.command)
+            first = next(commands, ())
+            self.are_several = any(command != first for command in commands)
+        return self.are_several
 
     def sightings(self, finding: Finding) -> Sightings:
         """Returns where and when a finding was seen. The order of the runs changes nothing."""

@@ -4,7 +4,7 @@ from __future__ import annotations
 
 import re
 import textwrap
-from typing import Callable, Dict, Iterable, Iterator, List, Optional, Set, TextIO, Tuple
+from typing import Callable, Dict, Iterable, Iterator, List, Optional, Sequence, Set, TextIO, Tuple
 
 from . import shadow_rows
 from .class_names import TITLES
@@ -88,7 +88,7 @@ class Text:
     def all_places(self, findings: Iterable[Finding], results: Results) -> None:
         for finding in findings:
             if self.is_entry(finding):
-                self.place(finding, seen=seen_text(results, finding))
+                self.place(finding, notes=notes_on(results, finding))
 
     def alone(self, finding: Finding, _: Results) -> Iterator[str]:
         """A finding that has just come up. If it may follow from an earlier one, it is a line."""
@@ -111,11 +111,11 @@ class Text:
             if finding.counts and finding.follows not in new:
                 self.place(finding, times=False)
 
-    def place(self, finding: Finding, times: bool = True, seen: str = "") -> None:
+    def place(self, finding: Finding, times: bool = True, notes: Sequence[str] = ()) -> None:
         """Writes a finding, if there were not too many before."""
         self.places += 1
         if self.places <= MAX_PLACES:
-            self.write(self.finding(finding, times, seen))
+            self.write(self.finding(finding, times, notes))
 
     def left_out(self, places: int) -> Iterator[str]:
         if self.has_shadow and self.places:
@@ -125,12 +125,12 @@ class Text:
             are = "is" if places == MAX_PLACES + 1 else "are"
             yield f"asancol: {plural(places - MAX_PLACES, 'more place')} {are} {where}"
 
-    def finding(self, finding: Finding, times: bool = True, seen: str = "") -> Iterator[str]:
+    def finding(self, finding: Finding, times: bool = True, notes: Sequence[str] = ()) -> Iterator[str]:
         colors = self.colors
-        notes = []
+        words = []
         if times and finding.count > 1:
-            notes += [f"{finding.count} times", plural(finding.processes, "process")]
-        count = f" ({', '.join(notes)})" if notes else ""
+            words += [f"{finding.count} times", plural(finding.processes, "process")]
+        count = f" ({', '.join(words)})" if words else ""
         threads = finding.threads
         thread = printable(threads.where(threads.access))
         title = TITLES[finding.class_name] if finding.is_leak else finding.title
@@ -155,8 +155,8 @@ class Text:
         if self.has_shadow and finding.rows.shadow:
             yield from shadow_rows.lines(finding.rows, finding.bad_byte)
         yield from self.also(finding)
-        if seen:
-            yield f"  {printable(seen)}"
+        for note in notes:
+            yield f"  {printable(note)}"
         yield from self.hint(finding.class_name)
         if self.has_suppressions:
             line = suppression_of(finding, self.rule_root)
@@ -351,6 +351,13 @@ def lines_of(processes: Iterable[Process], text_of: Callable[[Process], str]) ->
         first = ", ".join(map(str, numbers[:3])) + (", .." if len(numbers) > 3 else "")
         who = f"process {first}" if len(numbers) == 1 else f"{len(numbers)} processes ({first})"
         yield f"asancol: {who} {text}"
+
+
+def notes_on(results: Results, finding: Finding) -> List[str]:
+    """Returns which command line a finding's process has, if there are several, and where it was seen."""
+    process = results.first_process(finding)
+    notes = [f"process: {process.name}"] if process and process.command and results.has_several_commands() else []
+    return [*notes, *filter(None, [seen_text(results, finding)])]
 
 
 def seen_text(results: Results, finding: Finding) -> str:

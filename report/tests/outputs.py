@@ -263,7 +263,10 @@ def junit_has_the_tests_of_a_suite(folder: str) -> None:
     feed.process(4, command=["/tmp/tests/lost"], whole=False, why="its recording ended early")
     feed.end(status=8)
     for again in ("a.jsonl", "b.jsonl"):
-        report(folder, again, "--junit", "out.xml", "--json", "b.jsonl")
+        ran = report(folder, again, "--junit", "out.xml", "--json", "b.jsonl", "--html", "out.html")
+        expect_in(ran.out, "  process: /tmp/tests/bad 1\n")
+        with open(f"{folder}/out.html", encoding="utf-8") as file:
+            expect_in(file.read(), '<span class="near">process <code>/tmp/tests/bad 1</code></span>')
         cases = xml.dom.minidom.parse(f"{folder}/out.xml").getElementsByTagName("testcase")
         expect([it.getAttribute("name") for it in cases],
                ["ctest", "tests/good", "tests/bad 1", "tests/bad 2", "tests/lost"], "names")
