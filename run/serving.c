@@ -111,6 +111,8 @@ static void look_for_question(void)
     struct iovec piece = {text, sizeof text - 1};
     struct msghdr message = {
         .msg_iov = &piece, .msg_iovlen = 1, .msg_control = control, .msg_controllen = sizeof control};
+    if (served.passed >= 0)
+        return; /* what follows waits until that is taken */
     ssize_t length = served.asking >= 0 ? recvmsg(served.asking, &message, MSG_DONTWAIT | MSG_CMSG_CLOEXEC) : -1;
     if (length > 0 && text[0] != '\n') {
         take_word(text[0], passed_with(&message));

@@ -7,7 +7,6 @@
 #include <limits.h>
 #include <signal.h>
 #include <sys/stat.h>
-#include <sys/sysmacros.h>
 #include <unistd.h>
 
 #include "base/digits.h"
@@ -81,11 +80,14 @@ static bool add(uint64_t key)
     }
 }
 
+/* Of /dev/null: the numbers 1 and 3. */
+enum { NULL_DEVICE = 1 << 8 | 3 };
+
 /* Whether somebody may read what goes there. */
 static bool has_reader(struct stat *file)
 {
     bool is_open = system_fstat(STDERR_FILENO, file) == 0;
-    return is_open && !(S_ISCHR(file->st_mode) && file->st_rdev == makedev(1, 3));
+    return is_open && !(S_ISCHR(file->st_mode) && file->st_rdev == NULL_DEVICE);
 }
 
 /* Whether it has interrupted something, for which others may wait. */

@@ -156,7 +156,7 @@ def check_processors(suite: Suite, folder: str) -> None:
 def check_headers(suite: Suite, folder: str, compiler: Compiler) -> None:
     headers = [os.path.relpath(it, RECORDER) for it in glob.glob(f"{RECORDER}/**/*.h", recursive=True)]
     headers += [os.path.relpath(it, f"{RECORDER}/..") for it in glob.glob(f"{RECORDER}/../common/*.h")]
-    others = ("tests/", "out/", "cold_reports", "clang_intrinsics", "cxx/", "base/aarch64")
+    others = ("tests/", "out/", "cold_reports", "clang_intrinsics", "cxx/", "base/aarch64", "include/asancol/")
     headers = [it for it in headers if not it.startswith(others)]
     expect(len(headers) > 30, True, "headers")
     for header in headers:

@@ -144,7 +144,7 @@ def live_reports_are_in_order(folder: str) -> None:
     feed.process(0, LINES + END, parts_of(program))
     ran = feed.end()
     expect(heads(ran.out), ["heap-buffer-overflow: store", "heap-use-after-free: load"], ran.out)
-    expect(ran.out.count("  also at program.c:14"), 1, ran.out)
+    expect(ran.out.count("  also at program.c:14"), 2, "once with the count at the end")
 
 
 @report_test

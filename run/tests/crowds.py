@@ -83,7 +83,7 @@ def check_checkers(suite: Suite, folder: str, program: str) -> None:
     """Each checker of several is killed, and the one of a process with an event, which alone is incomplete."""
     failing = checker(suite, folder, DIES.replace("ASANCOL", suite.asancol))
     line = f"{program} {BESIDE} & {suite.program} past; wait"
-    ran = suite.run("--", "sh", "-c", line, cwd=folder, ASANCOL=failing)
+    ran = suite.run("--live=end", "--", "sh", "-c", line, cwd=folder, ASANCOL=failing)
     expect_ran(ran, 98, f"; {BESIDE + 1} processes, ", "; 1 INCOMPLETE", "its checker was ended by SIGKILL")
 
 

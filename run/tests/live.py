@@ -43,7 +43,7 @@ def check_order(suite: Suite, folder: str) -> None:
         ran = run(program, "past", "freed", "past", "twice", "overlap")
         in_order(ran, *PAST, *FREED, "<past>", "<twice>", "attempting", "<overlap>", "memcpy-param-overlap")
         expect_ran(ran, 99, "asancol: heap-buffer-overflow in past ", ": 2 times, 1 process\n",
-                   "asancol: 5 reports at 4 places ")
+                   "asancol: 5 reports at 4 places;")
         for title in ("heap-buffer-overflow: store", "heap-use-after-free: load", "attempting double-free", "memcpy"):
             expect(ran.err.count(f"ERROR: asancol: {title}"), 1, ran.err)
         expect_in(ran.err, "in past ", "live.c:", "allocated at")

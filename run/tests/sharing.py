@@ -62,7 +62,7 @@ def check_mixed(suite: Suite, folder: str) -> None:
     ways: Tuple[List[str], ...] = ([], ["--keep", f"{folder}/kept"])
     for options in ways:
         packets = f"{folder}/packets"
-        argv = [*options, "--exitcode=7", "--", "sh", "-c", mixed(suite)]
+        argv = [*options, "--live=end", "--exitcode=7", "--", "sh", "-c", mixed(suite)]
         ran = suite.run(*argv, ASANCOL=noting, FAKE_PACKETS=packets)
         statuses.append((ran.status, ran.out))
         said.append(said_of([it for it in read_packets(packets)[1:] if it["type"] == "process"]))
@@ -79,7 +79,7 @@ def check_same_bytes(suite: Suite, folder: str) -> None:
     """However many have the same small stream, it is checked once; and each that has another one is checked."""
     noting = checker(suite, folder, f"echo $# >> {folder}/words")
     each = f"i=0; while [ $i -lt 400 ]; do {suite.program} sound > /dev/null; i=$((i+1)); done"
-    ran = suite.run("--", "sh", "-c", f"{each}; {suite.program} past 1 > /dev/null; {each}; true", ASANCOL=noting,
+    ran = suite.run("--live=end", "--", "sh", "-c", f"{each}; {suite.program} past 1 > /dev/null; {each}; true", ASANCOL=noting,
                     ASANCOL_REPORT=REPORT)
     expect_ran(ran, 99, "1 report at 1 place; 801 processes", "all complete")
     expect(len(starts(folder)) < 8, True, "a checker for the first, and one for the report")
@@ -90,7 +90,7 @@ def check_failing(suite: Suite, folder: str, line: str) -> None:
     failing = checker(suite, folder, f'echo $# >> {folder}/words\nif [ "$1" = check ]; then {line}; fi')
     pair = f"{suite.program} sound > /dev/null; {suite.program} execs true"
     each = f"i=0; while [ $i -lt {SHORT} ]; do {pair}; i=$((i+1)); done"
-    ran = suite.run("--", "sh", "-c", each, ASANCOL=failing)
+    ran = suite.run("--live=end", "--", "sh", "-c", each, ASANCOL=failing)
     expect_ran(ran, 0, f"no reports; {2 * SHORT} processes, {4 * SHORT} events; all complete")
     expect(len(starts(folder)) > SHORT // 2, True, "whether many had one after it")
 
@@ -98,7 +98,7 @@ def check_failing(suite: Suite, folder: str, line: str) -> None:
 def check_all_failing(suite: Suite, folder: str) -> None:
     """If those fail too that each has for itself, it is said of each."""
     each = f"i=0; while [ $i -lt {SHORT} ]; do {suite.program} sound > /dev/null; i=$((i+1)); done"
-    ran = suite.run("--", "sh", "-c", each, ASANCOL=checker(suite, folder, "kill -9 $$"))
+    ran = suite.run("--live=end", "--", "sh", "-c", each, ASANCOL=checker(suite, folder, "kill -9 $$"))
     expect_ran(ran, 98, f"{SHORT} INCOMPLETE", "its checker was ended by SIGKILL")
 
 
@@ -106,17 +106,17 @@ def check_few_descriptors(suite: Suite, folder: str) -> None:
     """Those that wait for others hold nobody up, and what a checker can't open it is given alone."""
     each = f"i=0; while [ $i -lt 100 ]; do {suite.program} sound > /dev/null & i=$((i+1)); done; wait"
     for most in (24, 32, 64):
-        ran = suite.run_argv(["sh", "-c", f"ulimit -n {most}; exec {RUN} -- sh -c '{each}'"])
+        ran = suite.run_argv(["sh", "-c", f"ulimit -n {most}; exec {RUN} --live=end -- sh -c '{each}'"])
         expect_ran(ran, 0, "no reports; 100 processes, 200 events; all complete")
     limited = checker(suite, folder, 'if [ "$1" = check ]; then ulimit -n 16; fi')
-    expect_ran(suite.run("--", "sh", "-c", each, ASANCOL=limited), 0, "100 processes, 200 events; all complete")
+    expect_ran(suite.run("--live=end", "--", "sh", "-c", each, ASANCOL=limited), 0, "100 processes, 200 events; all complete")
 
 
 def check_full_disk(suite: Suite, folder: str) -> None:
     """Where no file may have a byte, no verdict can be written."""
     line = f"i=0; while [ $i -lt 9 ]; do {suite.program} sound > /dev/null; i=$((i+1)); done"
-    together = suite.run_argv(["sh", "-c", f"ulimit -f 0; exec {RUN} -- sh -c '{line}'"])
-    alone = suite.run_argv(["sh", "-c", f"ulimit -f 0; exec {RUN} -- {suite.program} sound"])
+    together = suite.run_argv(["sh", "-c", f"ulimit -f 0; exec {RUN} --live=end -- sh -c '{line}'"])
+    alone = suite.run_argv(["sh", "-c", f"ulimit -f 0; exec {RUN} --live=end -- {suite.program} sound"])
     expect((together.status, "9 INCOMPLETE" in together.err), (alone.status, True), together.err)
 
 

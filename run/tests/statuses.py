@@ -249,7 +249,7 @@ def check_help(suite: Suite, folder: str) -> None:
         ran = suite.run(word)
         expect((ran.status, ran.err), (0, ""), word)
         lines = ran.out.splitlines()
-        if len(lines) > 48 or max(len(it) for it in lines) > 80:
+        if len(lines) > 50 or max(len(it) for it in lines) > 80:
             raise Failure(f"the help has {len(lines)} lines, and up to {max(len(it) for it in lines)} columns")
     expect(suite.run("--version").out.split()[0], "asancol-run", "version")
     expect(suite.run("-q", "--help").status, 0, "help after another option")
@@ -278,11 +278,13 @@ def check_quarantine_of_environment(suite: Suite, folder: str) -> None:
     for mode, setting, wanted in (("1", "4096", "check --quarantine 4096 -"), ("1", "junk", ""), ("0", "junk", ""),
                                   ("0", "4096", "check --quarantine 268435456 -"),
                                   ("0", "1000000000", "check --quarantine 1000000000 -")):
-        ran = suite.run("--", suite.program, "sound", ASANCOL=checker, ASANCOL_QUARANTINE=setting, ASANCOL_FULL=mode)
+        argv = ["--live=end", "--", suite.program, "sound"]
+        ran = suite.run(*argv, ASANCOL=checker, ASANCOL_QUARANTINE=setting, ASANCOL_FULL=mode)
         expect_ran(ran, 0)
         with open(f"{folder}/words", encoding="utf-8") as words:
             expect(words.read().strip(), wanted, setting)
-    suite.run("--full", "--quarantine=1", "--limit", "9", "--limit", "8", "--", suite.program, "sound", ASANCOL=checker)
+    argv = ["--live=end", "--full", "--quarantine=1", "--limit", "9", "--limit", "8", "--", suite.program, "sound"]
+    suite.run(*argv, ASANCOL=checker)
     with open(f"{folder}/words", encoding="utf-8") as words:
         expect(words.read().strip(), "check --quarantine 1 --limit 8 -", "options")
 
@@ -293,7 +295,7 @@ def check_environment(suite: Suite, folder: str) -> None:
     after = dict(it.split("=", 1) for it in suite.run("--", "env", "-0", **before).out.split("\0") if it)
     hub = after.pop("ASANCOL_HUB")
     expect(hub.startswith("/"), True, "an absolute name")
-    expect(after.pop("ASANCOL_LEAKS"), "1", "leaks are looked for")
+    expect((after.pop("ASANCOL_LEAKS"), after.pop("ASANCOL_LIVE")), ("1", "1"), "leaks, and reports as they come up")
     expect(re.fullmatch(r"\d+:\d+", after.pop("ASANCOL_TEXT")) is not None, True, "where the text goes")
     expect_in(after.pop("LD_PRELOAD"), "libasancol_before_libasan.so")
     for name in ("ASANCOL_TRACE", "ASANCOL_SOCKET"):
