@@ -80,7 +80,7 @@ def wrapper_without(folder: str, name: str, plugin: bytes) -> str:
     """A wrapper beside which there is another plugin; with no bytes none."""
     os.mkdir(f"{folder}/{name}")
     for it in os.listdir(os.path.dirname(CC)):
-        if it in ("cxx", "cold_reports.h", "no-second-allocator.ld") or it.endswith(".a"):
+        if it in ("cxx", "include", "cold_reports.h", "no-second-allocator.ld") or it.endswith(".a"):
             os.symlink(f"{os.path.dirname(CC)}/{it}", f"{folder}/{name}/{it}")
     shutil.copy(CC, f"{folder}/{name}/asancol-cc")
     if plugin:

@@ -79,7 +79,8 @@ def check_same_bytes(suite: Suite, folder: str) -> None:
     """However many have the same small stream, it is checked once; and each that has another one is checked."""
     noting = checker(suite, folder, f"echo $# >> {folder}/words")
     each = f"i=0; while [ $i -lt 400 ]; do {suite.program} sound > /dev/null; i=$((i+1)); done"
-    ran = suite.run("--live=end", "--", "sh", "-c", f"{each}; {suite.program} past 1 > /dev/null; {each}; true", ASANCOL=noting,
+    line = f"{each}; {suite.program} past 1 > /dev/null; {each}; true"
+    ran = suite.run("--live=end", "--", "sh", "-c", line, ASANCOL=noting,
                     ASANCOL_REPORT=REPORT)
     expect_ran(ran, 99, "1 report at 1 place; 801 processes", "all complete")
     expect(len(starts(folder)) < 8, True, "a checker for the first, and one for the report")
@@ -109,7 +110,8 @@ def check_few_descriptors(suite: Suite, folder: str) -> None:
         ran = suite.run_argv(["sh", "-c", f"ulimit -n {most}; exec {RUN} --live=end -- sh -c '{each}'"])
         expect_ran(ran, 0, "no reports; 100 processes, 200 events; all complete")
     limited = checker(suite, folder, 'if [ "$1" = check ]; then ulimit -n 16; fi')
-    expect_ran(suite.run("--live=end", "--", "sh", "-c", each, ASANCOL=limited), 0, "100 processes, 200 events; all complete")
+    ran = suite.run("--live=end", "--", "sh", "-c", each, ASANCOL=limited)
+    expect_ran(ran, 0, "100 processes, 200 events; all complete")
 
 
 def check_full_disk(suite: Suite, folder: str) -> None:
