@@ -70,6 +70,7 @@ CLASSES = {
 STACK, POISON = "stack-buffer-overflow", "use-after-poison"
 # AddressSanitizer's name for each shadow byte, and the class of asancol that it makes finer.
 COARSE = {"STACK": STACK, "GLOBAL": "global-buffer-overflow", "USER": POISON}
+HEAP_REDZONE = 0xfa
 BY_SHADOW = {it.byte: (it.class_name, COARSE.get(it.kind, it.class_name)) for it in SHADES}
 # A recorder has poison for all that is no block. What has another class of asancol's is never only poisoned.
 NOT_POISONED = {"heap-use-after-free"}
@@ -98,8 +99,15 @@ def class_of(verdict: str, access: str, bad: int, fault: Fault) -> str:
     if verdict == POISON and is_past_block(fault, bad):
         return "heap-buffer-overflow"
     name, coarse = BY_SHADOW.get(shadow_byte(fault, bad), (verdict, verdict))
+    if verdict == POISON and name == BY_SHADOW[HEAP_REDZONE][0] and is_in_block(fault, bad):
+        return verdict  # the redzone is of what came there later
     agrees = verdict == coarse or (verdict == POISON and name not in NOT_POISONED)
     return name if agrees else verdict
+
+
+def is_in_block(fault: Fault, bad: int) -> bool:
+    """Whether a byte is in the block that is known of it, which may be freed."""
+    return fault.block > 0 and fault.block <= bad < fault.block + fault.block_size
 
 
 def is_past_block(fault: Fault, bad: int) -> bool:
