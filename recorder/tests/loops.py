@@ -290,8 +290,8 @@ def check_loaded(_suite: Suite, folder: str, compiler: Compiler) -> None:
 def write_headers(folder: str, text: str) -> None:
     """Those of a version of LLVM, as far as make looks at them."""
     for name in ("Passes/PassBuilder.h", "Config/llvm-config.h", "ADT/SmallVector.h"):
-        os.makedirs(f"{folder}/include/llvm/{os.path.dirname(name)}", exist_ok=True)
-        with open(f"{folder}/include/llvm/{name}", "w", encoding="utf-8") as file:
+        os.makedirs(f"{folder}/headers/llvm/{os.path.dirname(name)}", exist_ok=True)
+        with open(f"{folder}/headers/llvm/{name}", "w", encoding="utf-8") as file:
             file.write(text)
 
 
@@ -301,7 +301,7 @@ def check_left_out(_suite: Suite, folder: str) -> None:
         if os.path.isdir(f"{RECORDER}/{name}") and name != "out":
             os.symlink(f"{RECORDER}/{name}", f"{folder}/{name}")
     with open(f"{folder}/llvm-config", "w", encoding="utf-8") as file:
-        file.write(f"#!/bin/sh\ncase $1 in --version) echo 77.1.0;; *) echo {folder}/include;; esac\n")
+        file.write(f"#!/bin/sh\ncase $1 in --version) echo 77.1.0;; *) echo {folder}/headers;; esac\n")
     os.chmod(f"{folder}/llvm-config", 0o755)
     product, said = f"{folder}/libasancol_loops_77.so", f"{folder}/out/loops/77/whole.said"
     for text in ("#error one\n", "#error other\n"):

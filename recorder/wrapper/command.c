@@ -24,7 +24,7 @@ static _Noreturn void show_help(void)
 struct own_options own_options_take(char **argv, const struct called *called)
 {
     static const char all[] = "--asancol-all", all_loops[] = "--asancol-all-loops", compiler[] = "--asancol-compiler=";
-    static const char loops[] = "--asancol-loops", no_run[] = "--asancol-no-run", help[] = "--asancol-help";
+    static const char help[] = "--asancol-help", loops[] = "--asancol-loops", no_run[] = "--asancol-no-run";
     const char *setting = getenv("ASANCOL_ALL");
     struct own_options own = {.compiler = called->compiler, .is_all = setting != NULL && strcmp(setting, "1") == 0};
     if (own.compiler == NULL)
