@@ -169,7 +169,7 @@ int running_version(const struct job *job)
 {
     struct strings line = make_line(job, false);
     int status = wait_for(start_compiler(&line, STDOUT_FILENO, ERRORS_OURS), line.items[0]);
-    printf("%s (asancol) " RELEASE "\n", job->front->name);
+    printf("%s (asancol) %s\n", job->front->name, RELEASE);
     return fflush(stdout) != 0 ? 1 : status;
 }
 
