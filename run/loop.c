@@ -6,6 +6,7 @@
 
 #include <dirent.h>
 #include <errno.h>
+#include <fcntl.h>
 #include <inttypes.h>
 #include <poll.h>
 #include <signal.h>
@@ -196,7 +197,8 @@ static void take_accepted(void)
     struct ucred peer;
     int connection;
     while ((connection = serving_next_connection()) >= 0) {
-        if (hub_know(connection, &peer))
+        /* An end of a pair does not wait, as its process needs the other; a checker's reads wait. */
+        if (hub_know(connection, &peer) && fcntl(connection, F_SETFL, 0) == 0)
             add_connection(connection, &peer);
         else
             close(connection);
