@@ -221,11 +221,8 @@ def build(folder: str, compiler: str, name: str) -> str:
 
 def check_exits(suite: Suite, folder: str, compiler: str) -> None:
     """At an exit no other thread comes back from the call in which it waits: it would go on, and be seen."""
-    waits, leaving = build(folder, compiler, "waits"), build(folder, compiler, "leaving")
+    leaving = build(folder, compiler, "leaving")
     for run in ways_of_running(suite):
-        for _ in range(3):
-            ran = run(waits, "at-exit")
-            expect((ran.status, ran.out, ran.err), (7, "", ""), "waits")
         for how in LEAVINGS:
             alone = "written at the end\nbegins\n" if how == "locks" else "begins\n" * ("-quick" not in how)
             ran = run(leaving, how)
@@ -237,9 +234,9 @@ def check_waits(suite: Suite, folder: str, compiler: str) -> None:
     that has sent a part comes back with it."""
     waits = build(folder, compiler, "waits")
     call(["gcc", "-w", "-pthread", f"{TESTS}/waits.c", "-o", "alone"], cwd=folder, check=True)
-    alone = suite.run_argv([f"{folder}/alone", "checked"])
+    alone = suite.run_argv([f"{folder}/alone"])
     for run in ways_of_running(suite)[::2]:
-        ran = run(waits, "checked")
+        ran = run(waits)
         expect(ran.out.replace("send_of_time: 0 0 early\n", "send_of_time: 0 0\n"), alone.out, "answers")
 
 

@@ -1,6 +1,6 @@
-/* A thread in each call that waits. "at-exit": the process ends with status 7 meanwhile, and nobody may come back from
-   his call. "checked": leaks are looked for meanwhile, and each call ends as alone: after SPAN_MS, by its own time or
-   since the first thread ends it then. Prints what each has answered, and "early" if it came back before its time. */
+/* A thread in each call that waits. Leaks are looked for meanwhile, and each call ends as alone: after SPAN_MS, by its
+   own time or since the first thread ends it then. Prints what each has answered, and "early" where it came back before
+   its time. */
 #define _GNU_SOURCE
 #include <errno.h>
 #include <fcntl.h>
@@ -30,16 +30,15 @@
 #include <time.h>
 #include <unistd.h>
 
-enum { SPAN_MS = 700, LONG_S = 100, CHECKS = 8 };
+enum { SPAN_MS = 700, CHECKS = 8 };
 
 extern int __lsan_do_recoverable_leak_check(void) __attribute__((weak));
 
-static int is_long; /* the calls wait for longer than the process lives */
 static pthread_barrier_t all_there;
 
 static struct timespec span(void)
 {
-    return is_long ? (struct timespec){LONG_S, 0} : (struct timespec){0, SPAN_MS * 1000000L};
+    return (struct timespec){0, SPAN_MS * 1000000L};
 }
 
 static struct timespec until(clockid_t clock)
@@ -50,11 +49,6 @@ static struct timespec until(clockid_t clock)
     now.tv_sec += more.tv_sec + now.tv_nsec / 1000000000;
     now.tv_nsec %= 1000000000;
     return now;
-}
-
-static int milliseconds(void)
-{
-    return is_long ? LONG_S * 1000 : SPAN_MS;
 }
 
 /* What some calls wait for. The first thread gives it. */
@@ -145,7 +139,7 @@ static long receive_mail(void)
     mq_unlink(name);
     if (mail >= 0)
         return mq_timedreceive(mail, text, sizeof text, NULL, &end);
-    usleep((useconds_t)milliseconds() * 1000);
+    usleep(SPAN_MS * 1000);
     return 0;
 }
 
@@ -178,16 +172,16 @@ static long wait_condition(int is_timed)
     CALL(nanosleep, OF_TIME(nanosleep(&time, NULL)))                                                                   \
     CALL(clock_nanosleep, OF_TIME(clock_nanosleep(CLOCK_MONOTONIC, 0, &time, NULL)))                                   \
     CALL(clock_nanosleep_until, UNTIL(CLOCK_MONOTONIC, clock_nanosleep(CLOCK_MONOTONIC, TIMER_ABSTIME, &end, NULL)))   \
-    CALL(sleep, { return sleep(is_long ? LONG_S : 1); })                                                               \
-    CALL(usleep, { return usleep((useconds_t)milliseconds() * 1000); })                                                \
+    CALL(sleep, { return sleep(1); })                                                                                  \
+    CALL(usleep, { return usleep(SPAN_MS * 1000); })                                                                   \
     CALL(pause, { return pause(); })                                                                                   \
-    CALL(poll, { return poll(NULL, 0, milliseconds()); })                                                              \
-    CALL(poll_of_pipe, { struct pollfd it = {pipe_ends[1] + 1000, POLLIN, 0}; return poll(&it, 0, milliseconds()); })  \
+    CALL(poll, { return poll(NULL, 0, SPAN_MS); })                                                                     \
+    CALL(poll_of_pipe, { struct pollfd it = {pipe_ends[1] + 1000, POLLIN, 0}; return poll(&it, 0, SPAN_MS); })         \
     CALL(ppoll, OF_TIME(ppoll(NULL, 0, &time, NULL)))                                                                  \
     CALL(select, { struct timeval time = short_time(); return select(0, NULL, NULL, NULL, &time); })                   \
     CALL(pselect, OF_TIME(pselect(0, NULL, NULL, NULL, &time, NULL)))                                                  \
-    CALL(epoll_wait, { struct epoll_event it; return epoll_wait(set, &it, 1, milliseconds()); })                       \
-    CALL(epoll_pwait, { struct epoll_event it; return epoll_pwait(set, &it, 1, milliseconds(), NULL); })               \
+    CALL(epoll_wait, { struct epoll_event it; return epoll_wait(set, &it, 1, SPAN_MS); })                              \
+    CALL(epoll_pwait, { struct epoll_event it; return epoll_pwait(set, &it, 1, SPAN_MS, NULL); })                      \
     CALL(sigsuspend, { sigset_t none; sigemptyset(&none); return sigsuspend(&none); })                                 \
     CALL(sigwait, { sigset_t only = set_of(SIGRTMIN + 1); int number; return sigwait(&only, &number); })               \
     CALL(sigwaitinfo, { sigset_t only = set_of(SIGRTMIN + 1); return sigwaitinfo(&only, NULL) > 0; })                  \
@@ -252,17 +246,13 @@ static void *run(void *of)
     it->result = it->wait();
     it->error = errno;
     it->is_early = now() - begin < (SPAN_MS - 20) / 1e3;
-    if (is_long) {
-        dprintf(2, "%s came back: %ld %s\n", it->name, it->result, strerrorname_np(it->error));
-        _exit(1);
-    }
     return NULL;
 }
 
 static void *sleep_here(void *unused)
 {
     pthread_barrier_wait(&all_there);
-    usleep((useconds_t)milliseconds() * 1000 + 20000);
+    usleep(SPAN_MS * 1000 + 20000);
     return unused;
 }
 
@@ -368,9 +358,8 @@ static void give_all(void)
     close(alive[1]);
 }
 
-int main(int count, char **argv)
+int main(void)
 {
-    is_long = count > 1 && strcmp(argv[1], "at-exit") == 0;
     prepare();
     hold_record();
     pthread_barrier_init(&all_there, NULL, COUNT + 2);
@@ -380,8 +369,6 @@ int main(int count, char **argv)
     pthread_barrier_wait(&all_there);
     double begin = now();
     usleep(100000);
-    if (is_long)
-        return 7;
     for (int i = 0; i < CHECKS; i++) {
         if (__lsan_do_recoverable_leak_check != NULL)
             __lsan_do_recoverable_leak_check();
