@@ -1,7 +1,7 @@
 /* Which signals are crashes.
 
-   Called: crash_is by stream/side.c, in any thread, also in a handler, and by run/verdict.c in the one thread of
-   asancol-run; no lock: it only compares. */
+   Called: crash_is by stream/side.c, in any thread, also in a handler, and by run/nothing.c and run/verdict.c in the
+   one thread of asancol-run; no lock: it only compares. */
 #ifndef ASANCOL_CRASH_H
 #define ASANCOL_CRASH_H
 

@@ -71,7 +71,7 @@ _asancol_run() {
             --at-least --wait --timeout --json --sarif --junit --codequality --markdown --html --source-url --category
             --keep --log-file --format --log-path --live --crashes --source-root --color --full-stacks --hide-frames
             --all-places --shadow --unchecked --quiet --verbose --leaks --suppressions --gen-suppressions --baseline
-            --quarantine --no-mismatches --full --preload --memory --limit --help --version --' -- "$word")
+            --quarantine --no-mismatches --full --preload --memory --limit --doctor --help --version --' -- "$word")
     else
         mapfile -t COMPREPLY < <(compgen -c -- "$word"; compgen -f -- "$word")
     fi

@@ -5,7 +5,7 @@ from __future__ import annotations
 import re
 from typing import Dict, List, Sequence
 
-from table import Option, Program, Wrong
+from table import Option, Program, SHOWN, Wrong
 
 # Completes a command that begins at the word $1, as if it stood alone.
 BASH_COMMAND = """
@@ -221,7 +221,7 @@ def zsh_options(program: Program) -> List[str]:
         what = re.sub(r"([\[\]])", r"\\\1", it.short(program.name))
         tail = f"{'=' if it.value else ''}[{what}]{zsh_of_value(it, program.name)}"
         names = [it.letter, it.name] if it.letter else it.names
-        front = "(- *)" if it.name in ("--help", "--version") else f"({' '.join(names)})" if len(names) > 1 else ""
+        front = "(- *)" if it.name in SHOWN else f"({' '.join(names)})" if len(names) > 1 else ""
         front = "*" if it.of("Repeats") else front
         if it.letter:
             lines.append(f"{quoted(front)}{{{it.letter},{it.name}}}{quoted(tail)}")

@@ -6,7 +6,7 @@ import json
 import re
 from typing import Dict, List, Sequence, Union
 
-from table import Option, Program, Wrong
+from table import Option, Program, SHOWN, Wrong
 
 COLUMNS = 80
 LINES = 50
@@ -36,7 +36,7 @@ def help_of(program: Program) -> List[str]:
 def action_of(option: Option) -> str:
     """Returns what asancol-run does with an option, as options.c has it."""
     kind = option.takes.kind
-    if option.name in ("--help", "--version"):
+    if option.name in SHOWN:
         return f"SHOW_{option.name[2:].upper()}"
     if option.of("Passed to") == "asancol check":
         return "PASS_CHECK"

@@ -49,6 +49,9 @@ class Takes(NamedTuple):
     pattern: str = ""
 
 
+# Options after which a program ends, whatever else its command line has.
+SHOWN = ("--help", "--version", "--doctor")
+
 KINDS = {
     "a file to write": "output",
     "a file to read": "input",

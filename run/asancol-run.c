@@ -31,6 +31,7 @@
 #include "kin.h"
 #include "lowered.h"
 #include "nested.h"
+#include "nothing.h"
 #include "options.h"
 #include "processes.h"
 #include "report.h"
@@ -166,23 +167,8 @@ static void say_awaited(size_t count)
         say("asancol: %zu processes whose parents waited for them crashed or halted; --crashes shows them", count);
 }
 
-/* Why nothing may have been recorded. A shell ends with the status of its last program, from which the signal follows
-   that has ended that. */
-static const char *nothing_text(const struct run_end *end)
-{
-    static char text[160]; /* there is one run */
-    int status = WIFEXITED(end->status) ? WEXITSTATUS(end->status) : 0;
-    int signal = WIFSIGNALED(end->status) ? WTERMSIG(end->status) : status - 128;
-    const char *front = status == 0 ? "the command was" : "a program of the command was";
-    if (end->has_timed_out || signal <= 0 || !crash_is((unsigned)signal))
-        return "NOTHING WAS RECORDED: was a program built with asancol-cc?";
-    snprintf(text, sizeof text, "NOTHING WAS RECORDED: %s ended by %s before a recording began, or not built with "
-             "asancol-cc", front, signal_name(signal));
-    return text;
-}
-
 /* What holds of the run, and not of one process. */
-static struct strings troubles_of(const struct run_end *end)
+static struct strings troubles_of(const struct run_end *end, const char *command)
 {
     static char missing[96], lost[96]; /* there is one run */
     struct strings lines = {0};
@@ -191,7 +177,7 @@ static struct strings troubles_of(const struct run_end *end)
     snprintf(lost, sizeof lost, "INCOMPLETE: %" PRIu64 " run%s inside this one left no result", end->lost,
              plural(end->lost, "s"));
     if (end->nothing)
-        strings_add(&lines, nothing_text(end));
+        strings_add(&lines, nothing_text(command, end->status, end->has_timed_out));
     else if (end->missing > 0)
         strings_add(&lines, missing);
     if (end->is_running)
@@ -450,7 +436,7 @@ int main(int count, char **argv)
         .lost = nested.lost,
         .notes = notes_of(&options),
     };
-    end.troubles = troubles_of(&end);
+    end.troubles = troubles_of(&end, options.command[0]);
     bool is_incomplete = is_cut_short(&sum, &end);
     bool is_error = options.unchecked == UNCHECKED_ERROR && unchecked_count() > 0;
     if (!end.nothing || is_incomplete)

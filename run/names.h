@@ -1,8 +1,8 @@
 /* Names of files with %p, %q{VAR} and %% in them, and where programs are.
 
    Called: name_expanded by options.c, names_make_folders by that and asan.c, name_descriptor by options.c and say.c,
-   find_own_program by checkers.c, command.c and report.c, find_recorders_file by preload.c; in the one thread of
-   asancol-run; no lock. */
+   find_own_program by checkers.c, command.c, options.c and report.c, find_recorders_file by preload.c; in the one
+   thread of asancol-run; no lock. */
 #ifndef ASANCOL_RUN_NAMES_H
 #define ASANCOL_RUN_NAMES_H
 

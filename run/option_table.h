@@ -52,6 +52,7 @@
     "  --preload                record modules of plain programs, too\n" \
     "  --memory B               most bytes that each checker may hold (no bound)\n" \
     "  --limit N                most events of a process to check (16777216)\n" \
+    "  --doctor                 look for what is missing here; find a sample bug\n" \
     "  -h, --help               print this help\n" \
     "  --version                print the name and the release\n" \
     "%p in a FILE is the process, %q{VAR} a variable. Status 125 to 127: not started.\n"
@@ -111,6 +112,7 @@
     {"serve", 0, SET_NUMBER, AT(served), 1, 999999999, NULL}, \
     {"sockets", 0, SET_INPUT, AT(sockets), 0, 0, NULL}, \
     {"held", 0, SET_FLAG, AT(are_held), 0, 0, NULL}, \
+    {"doctor", 0, SHOW_DOCTOR, 0, 0, 0, NULL}, \
     {"help", 'h', SHOW_HELP, 0, 0, 0, NULL}, \
     {"version", 0, SHOW_VERSION, 0, 0, 0, NULL}
 

@@ -47,6 +47,7 @@ enum action {
     PASS_PREFIX, /* the beginning of the names of files that the report writes */
     PASS_NAME,   /* a word for the report */
     PASS_URL,    /* a template of addresses, for the report */
+    SHOW_DOCTOR,
     SHOW_HELP,
     SHOW_VERSION
 };
@@ -353,8 +354,19 @@ static _Noreturn void show(const char *text)
     exit(0);
 }
 
+/* Becomes asancol-report, which looks at the machine. */
+static _Noreturn void show_doctor(void)
+{
+    char *program = find_own_program("asancol-report", "ASANCOL_REPORT"), *self = realpath("/proc/self/exe", NULL);
+    if (program != NULL && self != NULL)
+        execl(program, program, "--doctor-of", self, (char *)NULL);
+    fail(OWN_FAILURE, program != NULL ? program : "asancol-report", strerror(program != NULL ? errno : ENOENT));
+}
+
 static void take_flag(struct options *options, const struct option *option, const char *dashed)
 {
+    if (option->action == SHOW_DOCTOR)
+        show_doctor();
     if (option->action == SHOW_HELP)
         show(help);
     if (option->action == SHOW_VERSION)
@@ -424,7 +436,7 @@ static char **take(struct options *options, char **argv)
     note_given(option);
     if (asprintf(&dashed, "--%s", option->name) < 0)
         must(NULL);
-    if (option->action == SET_FLAG || option->action == PASS_FLAG || option->action >= SHOW_HELP) {
+    if (option->action == SET_FLAG || option->action == PASS_FLAG || option->action >= SHOW_DOCTOR) {
         if (equals != NULL)
             fail(OWN_FAILURE, dashed, "it takes no value");
         take_flag(options, option, dashed);

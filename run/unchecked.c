@@ -121,6 +121,11 @@ void unchecked_add_program(const char *path, const char *file)
     free(name);
 }
 
+const char *unchecked_program(size_t number)
+{
+    return number < unchecked.programs.count ? unchecked.programs.names[number] : NULL;
+}
+
 static int by_name(const void *left, const void *right)
 {
     return strcmp(*(char *const *)left, *(char *const *)right);

@@ -1,9 +1,8 @@
 /* The unchecked code of the processes, as their recorders list it, and the programs that were not recorded: each name
    once.
 
-   Called: unchecked_take by checkers.c, unchecked_add_program by unrecorded.c, unchecked_put by report.c, the rest by
-   asancol-run.c at the end; in the one
-   thread of asancol-run; no lock. */
+   Called: unchecked_take by checkers.c, unchecked_add_program by unrecorded.c, unchecked_put by report.c,
+   unchecked_program by nothing.c, the rest by asancol-run.c at the end; in the one thread of asancol-run; no lock. */
 #ifndef ASANCOL_RUN_UNCHECKED_H
 #define ASANCOL_RUN_UNCHECKED_H
 
@@ -20,6 +19,8 @@ enum unchecked { UNCHECKED_LIST, UNCHECKED_LIST_ALL, UNCHECKED_NO, UNCHECKED_ERR
 void unchecked_take(const struct segment *segment);
 /* Adds a program that was not recorded, by its path, unless its file is among the unchecked code. */
 void unchecked_add_program(const char *path, const char *file);
+/* The program of this number that was not recorded, by its path from the current folder; null: there are no more. */
+const char *unchecked_program(size_t number);
 /* How many names there are, without those of libraries of the system. */
 size_t unchecked_count(void);
 /* Whether one of them is more than what ASAN_OPTIONS, or a program's own options, have turned off: their user knows of

@@ -1,8 +1,8 @@
 /* What came of a process: its end line, and whether it was complete.
 
-   Called: verdict_begin by asancol-run.c, verdict_is_at_end by held.c,
-   verdict_blame_limit by segments.c, signal_name by these and report.c; the rest by checkers.c, which judges; in the
-   one thread of asancol-run; no lock. */
+   Called: verdict_begin by asancol-run.c, verdict_is_at_end by held.c, verdict_blame_limit by segments.c,
+   signal_name by marks.c, nothing.c and report.c; the rest by checkers.c, which judges; in the one thread of
+   asancol-run; no lock. */
 #ifndef ASANCOL_RUN_VERDICT_H
 #define ASANCOL_RUN_VERDICT_H
 

@@ -561,6 +561,24 @@ def check_own_wrap(suite, folder, compiler):
         expect((ran.returncode, said), (1, [" error", " __wrap_read"]), "without --wrap it would be called")
 
 
+def check_sanitized(suite, folder, compiler):
+    """An object with checks for AddressSanitizer's runtime is named before the linker refuses it. One that goes on
+    after its reports fits."""
+    made = Builder(suite, folder, compiler)
+    made.objects()
+    for other in ("gcc", "clang"):
+        if shutil.which(other) is None:
+            continue
+        build([other, "-w", "-fsanitize=address", "-DVALUE=1", "-c", "helper.c", "-o", "other.o"], folder)
+        for words in ([], ["-shared"]):
+            ran = run([CC, "main.o", "other.o", *words, "-o", "program"], folder, ASANCOL_CC=compiler.name)
+            wanted = "asancol-cc: error: other.o: another compiler made it with -fsanitize=address: compile it again"
+            expect((ran.returncode, ran.stderr.decode()), (1, f"{wanted} with asancol-cc\n"), other)
+        build([other, "-w", "-fsanitize=address", "-fsanitize-recover=address", "-DVALUE=1", "-c", "helper.c", "-o",
+               "other.o"], folder)
+        made.link("main.o", "other.o")
+
+
 def check_own_options(suite, folder, compiler):
     """Options in the place of variables, which ccache does not see."""
     made = Builder(suite, folder, compiler)
@@ -626,6 +644,7 @@ def tests(suite, compiler):
     suite.test(f"{compiler} builds: names", check_names, compiler)
     suite.test(f"{compiler} builds: named compiler", check_named, compiler)
     suite.test(f"{compiler} builds: own wrap", check_own_wrap, compiler)
+    suite.test(f"{compiler} builds: for another runtime", check_sanitized, compiler)
     suite.test(f"{compiler} builds: own options", check_own_options, compiler)
     suite.test(f"{compiler} builds: code models", check_code_models, compiler)
     suite.test(f"{compiler} builds: objects", check_objects, compiler)

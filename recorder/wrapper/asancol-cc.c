@@ -53,6 +53,9 @@ static void warn_of_unrecorded(const struct job *job)
         warn(job->command.items[0], UNKNOWN_COMPILER);
     if (foreign != NULL && !begins_with(foreign, "-m") && inputs->linked.has_marked && job->links)
         fail(foreign, NO_PLACE);
+    if (foreign == NULL && job->links && inputs->linked.sanitized != NULL)
+        fail(inputs->linked.sanitized, "another compiler made it with -fsanitize=address: compile it again with "
+                                       "asancol-cc");
     if (foreign != NULL)
         warn(foreign, begins_with(foreign, "-m") ? NOTHING : "remove it: " NOTHING);
     else if (!compiles)

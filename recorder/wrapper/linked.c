@@ -139,6 +139,7 @@ struct parts {
     bool has_assembly; /* a label in code that is no function: no compiler makes one */
     bool is_of_rust;   /* rustc has made some of it */
     bool asks_checks;  /* of code compiled with checks */
+    bool is_sanitized; /* checks that end in AddressSanitizer's runtime */
     bool has_own_names; /* functions or variables whose names are not rustc's */
     bool is_rust_own;   /* a crate of Rust's library */
     size_t files;  /* sources that the table of symbols names */
@@ -188,6 +189,13 @@ static bool is_mapping(const char *name)
     return name[0] == '$' && (name[1] == 'x' || name[1] == 'd') && (name[2] == 0 || name[2] == '.');
 }
 
+/* Whether it is what AddressSanitizer's runtime has and the recorder has not: its reports end the program. */
+static bool is_sanitizers_report(const char *name)
+{
+    return (begins_with(name, "__asan_report_load") || begins_with(name, "__asan_report_store"))
+           && !ends_with(name, "_noabort");
+}
+
 static void count_symbols(struct parts *parts, struct view view, const Elf64_Shdr *section)
 {
     struct view table = view_of_section(view, section), texts = view_texts(view, section->sh_link);
@@ -200,6 +208,7 @@ static void count_symbols(struct parts *parts, struct view view, const Elf64_Shd
         parts->files += type == STT_FILE && name[0] != 0;
         parts->is_rust_own |= type == STT_FILE && is_of_rust_crate(name);
         parts->asks_checks |= !is_defined && strcmp(name, CHECKS_ASKED_FOR) == 0;
+        parts->is_sanitized |= !is_defined && is_sanitizers_report(name);
         bool is_name = is_defined && (type == STT_FUNC || type == STT_OBJECT);
         if (is_name && !parts->has_own_names)
             parts->has_own_names = strstr(name, RUST_OWN) == NULL;
@@ -252,6 +261,7 @@ static bool has_loaded_text(struct view view, const char *text)
 struct look {
     bool is_marked; /* some of it was compiled this way */
     bool is_lto;
+    bool is_sanitized; /* its checks are for AddressSanitizer's runtime */
 };
 
 /* Whether a file was compiled this way, and whether it is compiled at the link: by its sections, or else its bytes. */
@@ -259,14 +269,14 @@ static struct look look_at(struct view view)
 {
     if (view_section_count(view) != 0) {
         struct parts parts = parts_of(view);
-        return (struct look){parts.marked != 0 || is_checked_rust(&parts), parts.has_lto};
+        return (struct look){parts.marked != 0 || is_checked_rust(&parts), parts.has_lto, parts.is_sanitized};
     }
     bool is_lto = view_has_text(view, GCC_LTO), is_elf = view_begins(view, OBJECT);
     if (is_bitcode(view))
-        return (struct look){has_mark(view), is_lto};
+        return (struct look){has_mark(view), is_lto, false};
     if (is_elf || view_begins(view, ARCHIVE))
-        return (struct look){is_lto && has_mark(view), is_lto};
-    return (struct look){view_has_text(view, LINKED_SWITCHES), is_lto};
+        return (struct look){is_lto && has_mark(view), is_lto, false};
+    return (struct look){view_has_text(view, LINKED_SWITCHES), is_lto, false};
 }
 
 /* A member of an archive comes in only if something asks for it, and then the callbacks come in by themselves: so an
@@ -283,6 +293,8 @@ void linked_look_at(struct linked *linked, const char *path)
     linked->may_open |= has_loaded_text(view, "dlopen");
     if (!is_library && !look.is_marked && look.is_lto && linked->unmarked_lto == NULL)
         linked->unmarked_lto = strdup(path);
+    if (is_one && look.is_sanitized && linked->sanitized == NULL)
+        linked->sanitized = strdup(path);
     view_unmap(view);
 }
 

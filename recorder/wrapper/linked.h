@@ -22,6 +22,7 @@ struct linked {
     bool has_bitcode;   /* the same, of Clang */
     bool may_open;      /* one that may open libraries */
     char *unmarked_lto; /* the first of these that was compiled otherwise, or null */
+    char *sanitized;    /* the first object whose checks are for AddressSanitizer's runtime, or null */
 };
 
 /* What an object is. */

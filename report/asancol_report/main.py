@@ -441,6 +441,9 @@ def main(argv: List[str], beside: str) -> int:
             sys.stdout.write(option_table.HELP)
         elif options.switches["--version"]:
             sys.stdout.write(f"asancol-report {RELEASE}\n")
+        elif options.value("--doctor-of"):
+            from .doctor import look
+            return look(options.value("--doctor-of"), beside)
         else:
             return Report(options, beside).run()
         sys.stdout.flush()
@@ -450,6 +453,8 @@ def main(argv: List[str], beside: str) -> int:
         return REFUSED
     except Broken as error:
         say(error)
+    except BrokenPipeError:
+        os.dup2(os.open(os.devnull, os.O_WRONLY), 1)  # Python would try again at its end
     except OSError as error:
         say(f"{error.filename}: {reason(error)}" if error.filename else reason(error))
     except MemoryError:

@@ -100,6 +100,7 @@ WITH_VALUE = (
     "--memory",
     "--limit",
     "--nested",
+    "--doctor-of",
 )
 SWITCHES = (
     "--crashes",

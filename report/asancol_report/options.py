@@ -80,7 +80,7 @@ def read(argv: List[str]) -> Options:
             take(options, name, rest, value, bool(equals))
         else:
             take(options, SHORT.get(word, word), rest, "", False)
-    if not options.switches["--help"] and not options.switches["--version"]:
+    if not options.switches["--help"] and not options.switches["--version"] and not options.value("--doctor-of"):
         look_over(options)
     return options
 

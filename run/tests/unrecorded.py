@@ -94,6 +94,18 @@ def check_options(suite: Suite, folder: str) -> None:
     expect_ran(suite.run("tests/plain", cwd=folder), 98, "NOTHING WAS RECORDED", ONE.format("tests/plain"))
 
 
+def check_reasons(suite: Suite, folder: str) -> None:
+    """The kinds of programs that are taken for recorded ones: for AddressSanitizer, and static ones."""
+    write_text(f"{folder}/main.c", "int main(void) { return 0; }\n")
+    for name, flag in (("sanitized", "-fsanitize=address"), ("static", "-static")):
+        call(["gcc", flag, "main.c", "-o", name], cwd=folder, check=True)
+    ran = suite.run("./sanitized", cwd=folder)
+    expect_ran(ran, 98, "NOTHING WAS RECORDED: sanitized was built for AddressSanitizer: build it with asancol-cc\n")
+    for command in ("./static", f"{folder}/static"):
+        expect_ran(suite.run(command, cwd=folder), 98,
+                   f"NOTHING WAS RECORDED: {command} is a static program that was not built with asancol-cc\n")
+
+
 def check_outputs(suite: Suite, folder: str) -> None:
     """JSON lines, merged results, SARIF, the page, and a run inside another one."""
     build(folder)
@@ -224,6 +236,7 @@ def tests(suite: Suite) -> None:
         if shutil.which(compiler):
             suite.test(f"unrecorded: ways to run tests, {compiler}", check_ways, compiler)
     suite.test("unrecorded: options", check_options)
+    suite.test("unrecorded: reasons", check_reasons)
     suite.test("unrecorded: outputs", check_outputs)
     suite.test("unrecorded: kinds of programs", check_kinds)
     suite.test("unrecorded: AddressSanitizer", check_sanitized)

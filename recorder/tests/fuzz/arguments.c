@@ -37,6 +37,7 @@ static void give_back(struct arguments *arguments)
         free(arguments->folders[i]);
     free(arguments->folders);
     free(inputs->linked.unmarked_lto);
+    free(inputs->linked.sanitized);
     give_back_names(&inputs->sources);
     give_back_names(&inputs->assembly);
     give_back_names(&arguments->request->link.wraps);

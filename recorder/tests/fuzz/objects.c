@@ -59,5 +59,6 @@ int LLVMFuzzerTestOneInput(const uint8_t *data, size_t size)
     linked_origin((struct view){(const char *)data, size});
     linked_is_library((struct view){(const char *)data, size});
     free(linked.unmarked_lto);
+    free(linked.sanitized);
     return 0;
 }

@@ -1,0 +1,58 @@
+"""`asancol-run --doctor`: what it says of a machine on which all is there, and of one that lacks something."""
+
+import os
+import resource
+import subprocess
+from typing import Callable, Optional
+
+from support import REPORT, RUN, Ran, Suite, compilers_there, expect
+from testing.programs import call
+
+
+def ask(suite: Suite, limit: Optional[Callable[[], None]] = None, **settings: str) -> Ran:
+    ran = call([RUN, "--doctor"], env=suite.environment(ASANCOL_REPORT=REPORT, **settings), stdin=subprocess.DEVNULL,
+               capture_output=True, check=False, preexec_fn=limit)
+    return Ran(ran.returncode, ran.stdout.decode(), ran.stderr.decode())
+
+
+def expect_lines(ran: Ran, status: int, *parts: str) -> None:
+    expect((ran.status, ran.err, [it for it in parts if it not in ran.out]), (status, "", []), ran.out)
+
+
+def check_healthy(suite: Suite, folder: str) -> None:
+    """With each compiler both bugs of the sample are found, under asancol-run and by the program itself."""
+    names = ["asancol-clang" if it == "clang" else "asancol-cc" for it in compilers_there()]
+    ways = [f"ok: {name}: a sample program {how}: its two bugs are found\n"
+            for name in names for how in ("under asancol-run", "by itself")]
+    expect_lines(ask(suite), 0, f": {os.path.realpath(RUN)}\n", "lines of reports: ", *ways, "0 errors, ")
+
+
+def check_lacking(suite: Suite, folder: str) -> None:
+    """Each thing that is missing has a line with a remedy, and an error makes the status 1."""
+    os.mkdir(f"{folder}/empty")
+    ran = ask(suite, ASANCOL=f"{folder}/none", ASANCOL_RUN="0", PATH=f"{folder}/empty", ASAN_OPTIONS="detect_leaks=0")
+    expect_lines(ran, 1, f"error: asancol, the checker, does not start: {folder}/none --version: No such file",
+                 "warning: reports have no lines: neither llvm-symbolizer nor addr2line was found: install ",
+                 "note: ASAN_OPTIONS=detect_leaks=0 is set\n", "warning: ASANCOL_RUN=0 is set: ",
+                 "note: asancol-cc was not tried: cc is not on the path\n",
+                 "error: no program can be built: ", "2 errors, 2 warnings\n")
+
+
+def check_limited(suite: Suite, folder: str) -> None:
+    """A limit under which no program starts is named, and so is what the sample then printed."""
+    ran = ask(suite, lambda: resource.setrlimit(resource.RLIMIT_AS, (8 << 30, 8 << 30)))
+    expect_lines(ran, 1, "error: ulimit -v is 8388608: ", "ulimit -v unlimited\n",
+                 "without the overflow, its line, the leak, status 99; it ended with status 98, and printed:\n"
+                 "    asancol: ")
+
+
+def check_leaks_off(suite: Suite, folder: str) -> None:
+    """A setting that turns something off is seen in the sample."""
+    ran = ask(suite, ASAN_OPTIONS="detect_leaks=0")
+    expect_lines(ran, 1, "by itself: without the leak; it ended with status 99")
+
+
+def tests(suite: Suite) -> None:
+    for name, check in (("a healthy machine", check_healthy), ("nothing there", check_lacking),
+                        ("a limit", check_limited), ("leaks turned off", check_leaks_off)):
+        suite.test(f"doctor: {name}", check)
