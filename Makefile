@@ -13,9 +13,9 @@ EXAMPLE := examples/one_byte_past_the_end.trace
 REDZONES := examples/stack_and_global_poison.trace
 
 .PHONY: all demo check check-mutants check-mutants-alone stress fuzz fuzz-parsers failures bench soak install \
-        uninstall clean recorder docs check-recorder check-real check-suites bench-record bench-suites stress-record \
-        stress-segments install-recorder run check-run check-farm bench-run bench-scale install-run install-units \
-        options dist deb check-packages lint release test races
+        uninstall clean recorder docs install-docs check-recorder check-real check-suites bench-record bench-suites \
+        stress-record stress-segments install-recorder run check-run check-farm bench-run bench-scale install-run \
+        install-units options dist deb check-packages lint release test races
 
 # The program, proved.
 all: asancol
@@ -191,13 +191,19 @@ stress-record: asancol recorder
 stress-segments: asancol recorder run
 	recorder/tests/segments_stress.py ./asancol
 
-# The list of the calls has no links where the other documents are not.
-CALLS_PAGE := $(ROOT)/share/doc/asancol/docs/CALLS.md
+# Where the pages are installed.
+DOCUMENTS := $(ROOT)/share/doc/asancol
 
-install-recorder: $(if $(HAS_PYTHON),docs)
+install-recorder: install-docs
 	$(MAKE) -C recorder install PREFIX=$(PREFIX) DESTDIR=$(DESTDIR)
-	test ! -f docs/CALLS.md || { install -d $(dir $(CALLS_PAGE)) && \
-	    sed -z 's/\[\([^]`]*\)\]([^)]*)/\1/g' docs/CALLS.md > $(CALLS_PAGE) && chmod 644 $(CALLS_PAGE); }
+
+# The pages as they lie in the tree, so that their links hold.
+install-docs: $(if $(HAS_PYTHON),docs)
+	install -d $(DOCUMENTS)/docs/inside
+	install -m 644 README.md CHANGELOG.md CONTRIBUTING.md $(DOCUMENTS)
+	install -m 644 $(sort $(wildcard docs/*.md) $(if $(HAS_PYTHON),docs/CALLS.md)) $(DOCUMENTS)/docs
+	install -m 644 docs/inside/*.md $(DOCUMENTS)/docs/inside
+	cp -r examples $(DOCUMENTS)
 
 install-run:
 	$(MAKE) -C run install PREFIX=$(PREFIX) DESTDIR=$(DESTDIR)
@@ -224,7 +230,7 @@ PROGRAMS := asancol asancol-run asancol-report asancol-listen
 
 uninstall:
 	$(MAKE) -C recorder uninstall PREFIX=$(PREFIX) DESTDIR=$(DESTDIR)
-	rm -rf $(ROOT)/lib/asancol $(CALLS_PAGE)
+	rm -rf $(ROOT)/lib/asancol $(DOCUMENTS)
 	rm -f $(foreach it,$(PROGRAMS),$(ROOT)/bin/$(it) $(ROOT)/share/man/man1/$(it).1)
 	rm -f $(ROOT)/share/man/man5/asancol-trace.5 $(ROOT)/share/man/man5/asancol-results.5
 	rm -f $(UNITS:%=$(ROOT)/lib/systemd/system/%)

@@ -70,6 +70,6 @@ complete -c asancol-run -n '_asancol_run_takes option' -l full -d 'record all ma
 complete -c asancol-run -n '_asancol_run_takes option' -l preload -d 'record modules of plain programs, too'
 complete -c asancol-run -n '_asancol_run_takes option' -l memory -x -d 'most bytes that each checker may hold'
 complete -c asancol-run -n '_asancol_run_takes option' -l limit -x -d 'most events of a process to check'
-complete -c asancol-run -n '_asancol_run_takes option' -l doctor -d 'look for what is missing here'
+complete -c asancol-run -n '_asancol_run_takes option' -l doctor -d 'look for missing tools'
 complete -c asancol-run -n '_asancol_run_takes option' -s h -l help -d 'print this help'
 complete -c asancol-run -n '_asancol_run_takes option' -l version -d 'print the name and the release'

@@ -43,7 +43,7 @@ _arguments -S \
     '--preload[record modules of plain programs, too]' \
     '--memory=[most bytes that each checker may hold]:number (no bound)' \
     '--limit=[most events of a process to check]:number (16777216)' \
-    '(- *)--doctor[look for what is missing here]' \
+    '(- *)--doctor[look for missing tools]' \
     '(- *)'{-h,--help}'[print this help]' \
     '(- *)--version[print the name and the release]' \
     '(-)1:command: _command_names -e' \

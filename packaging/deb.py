@@ -89,15 +89,10 @@ def zip_pages(root: str) -> None:
 
 
 def add_documents(root: str, version: str, maintainer: str, time: int) -> None:
-    """Adds the documents as they lie in the tree, so that their links hold, the one that is made, and the two
-    changelogs."""
-    subprocess.run(["make", "-s", "docs"], cwd=TOP, check=True)
+    """Adds to the installed pages what Debian asks for: the two changelogs, zipped, and the copyright."""
     folder = f"{root}/usr/share/doc/asancol"
-    os.makedirs(folder, exist_ok=True)
     write(f"{folder}/README.md", text_of(f"{TOP}/README.md").replace("](CHANGELOG.md)", "](changelog.gz)"))
-    shutil.copytree(f"{TOP}/examples", f"{folder}/examples")
-    shutil.copy(f"{TOP}/CONTRIBUTING.md", folder)
-    shutil.copytree(f"{TOP}/docs", f"{folder}/docs", dirs_exist_ok=True)
+    os.remove(f"{folder}/CHANGELOG.md")
     with open(f"{TOP}/CHANGELOG.md", "rb") as file:
         write_zipped(f"{folder}/changelog.gz", file.read())
     date = email.utils.formatdate(time)

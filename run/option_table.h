@@ -52,7 +52,7 @@
     "  --preload                record modules of plain programs, too\n" \
     "  --memory B               most bytes that each checker may hold (no bound)\n" \
     "  --limit N                most events of a process to check (16777216)\n" \
-    "  --doctor                 look for what is missing here; find a sample bug\n" \
+    "  --doctor                 look for missing tools; find a sample bug\n" \
     "  -h, --help               print this help\n" \
     "  --version                print the name and the release\n" \
     "%p in a FILE is the process, %q{VAR} a variable. Status 125 to 127: not started.\n"

@@ -76,7 +76,7 @@ MISTAKES = [
     (", asancol-report: Output files", ": Output files", "--json FILE: asancol-report has no such option"),
     ("Help: write all lines here", "# ", "--log-file FILE: it has no Help or no Page for asancol-run"),
     ("Help: print a line for each process", f"Help: {'x' * 54}",
-     "asancol-run: its help has 49 lines of at most 50, and 1 too wide"),
+     "asancol-run: its help has 50 lines of at most 50, and 1 too wide"),
 ]
 
 # Each prints the completions by the file $1 for the words after it, of which the first is the program.

@@ -109,8 +109,11 @@ def what_is_installed_goes_again(_: str, folder: str) -> None:
     argv = [f"DESTDIR={folder}", "PREFIX=/usr"]
     must(["make", "-s", "install", *argv])
     expect(os.path.isfile(f"{folder}/usr/bin/asancol"), True, "that it is installed")
-    calls = must(["cat", f"{folder}/usr/share/doc/asancol/docs/CALLS.md"])
-    expect(("| `memcpy`, `mempcpy` | " in calls, "](" in calls), (True, False), "the list of calls, without links")
+    pages = f"{folder}/usr/share/doc/asancol"
+    calls = must(["cat", f"{pages}/docs/CALLS.md"])
+    expect("| `memcpy`, `mempcpy` | " in calls, True, "the list of calls")
+    named = [*(f"docs/{it}.md" for it in ("ASAN", "REPORTS", "inside/MODEL")), "examples/bug.c"]
+    expect([it for it in named if not os.path.isfile(f"{pages}/{it}")], [], "pages that are missing")
     must(["make", "-s", "uninstall", *argv])
     left = [f"{place}/{name}" for place, _, names in os.walk(folder) for name in names]
     expect(left, [], "what is left")
