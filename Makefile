@@ -15,7 +15,7 @@ REDZONES := examples/stack_and_global_poison.trace
 .PHONY: all demo check check-mutants check-mutants-alone stress fuzz fuzz-parsers failures bench soak install \
         uninstall clean recorder docs install-docs check-recorder check-real check-suites bench-record bench-suites \
         stress-record stress-segments install-recorder run check-run check-farm bench-run bench-scale install-run \
-        install-units options dist deb check-packages lint release test races
+        install-units options dist deb tarball check-packages check-bare lint release test races
 
 # The program, proved.
 all: asancol
@@ -248,7 +248,11 @@ dist:
 deb: asancol recorder run
 	packaging/deb.py
 
-# The tag of what VERSION says, the archive and the package, if the tree is clean and CHANGELOG.md has a section for it.
+# The same for other systems: an archive that works wherever it is unpacked.
+tarball: asancol recorder run
+	packaging/tarball.py
+
+# The tag of what VERSION says, the archives and the package, if the tree is clean and CHANGELOG.md has a section for it.
 # It pushes nothing.
 release:
 	packaging/release.py
@@ -257,8 +261,12 @@ release:
 check-packages: asancol recorder run
 	tests/packages.py ./asancol
 
+# The package on two minimal systems, which mmdebstrap makes of Debian's archive. It needs root, and some minutes.
+check-bare: asancol recorder run
+	tests/packages.py ./asancol "bare machine"
+
 # Leaves what was proved so far, in crates/*/out, for the next build.
 clean:
-	rm -f asancol bug docs/CALLS.md asancol-*.tar.gz asancol_*.deb
+	rm -f asancol bug docs/CALLS.md asancol-*.tar.* asancol_*.deb
 	$(MAKE) -C recorder clean
 	$(MAKE) -C run clean

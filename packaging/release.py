@@ -1,10 +1,10 @@
 #!/usr/bin/env python3
-"""Makes a release of the commit: its archive, its package and its tag.
+"""Makes a release of the commit: its archives, its package and its tag.
 
 The release is the one that VERSION says, and its tag is `v` with that. It is made if nothing differs from the commit,
-CHANGELOG.md has a section for it, there is no such tag yet, and lint_tree.py finds nothing. First come the archive and
-the package, by `make dist deb`: what can't be packaged has no tag. At the end the section is printed. Nothing is
-pushed.
+CHANGELOG.md has a section for it, there is no such tag yet, and lint_tree.py finds nothing. First come the archives and
+the package, by `make dist deb tarball`: what can't be packaged has no tag. At the end the section is printed. Nothing
+is pushed.
 """
 
 import argparse
@@ -54,7 +54,7 @@ def main() -> int:
     version = text_of("VERSION").strip()
     section = section_of(version, text_of("CHANGELOG.md"))
     expect_ready(version, section)
-    if subprocess.run(["make", "-s", "dist", "deb"], cwd=TOP, check=False).returncode:
+    if subprocess.run(["make", "-s", "dist", "deb", "tarball"], cwd=TOP, check=False).returncode:
         fail("the archive and the package can't be made, so there is no tag")
     git("tag", "--annotate", f"v{version}", "--message", f"asancol {version}")
     print(f"tag v{version}: git push origin v{version} publishes it\n\n{section}")

@@ -111,7 +111,7 @@ def releases_are_made_once(_: str, folder: str) -> None:
     expect_not_in(ran.out, "Other")
     expect(run_in(path, "git", "rev-list", "-1", "v7.8.9").out, run_in(path, "git", "rev-parse", "HEAD").out, "its tag")
     with open(f"{folder}/bin/asked", encoding="utf-8") as file:
-        expect(file.read(), "-s dist deb\n", "what was made")
+        expect(file.read(), "-s dist deb tarball\n", "what was made")
     os.remove(f"{folder}/bin/asked")
     expect_refused(path, folder, "the tag v7.8.9 is there")
 

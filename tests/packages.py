@@ -246,6 +246,56 @@ def package_is_whole(_: str, folder: str) -> None:
         expect(f"asancol {release()}" in shown and "ASANCOL-CC(1)" in shown, True, "the page of asancol-c++")
 
 
+def archive_works_elsewhere(_: str, folder: str) -> None:
+    """The archive of the build is the same each time, and is used where it is unpacked, also below a blank."""
+    made = f"{folder}/{must([f'{TOP}/packaging/tarball.py', folder]).strip()}"
+    first = sum_of(made)
+    must([f"{TOP}/packaging/tarball.py", folder])
+    expect(sum_of(made), first, "the archive, once more")
+    os.mkdir(f"{folder}/some where")
+    must(["tar", "xf", made, "-C", f"{folder}/some where"])
+    programs = f"{folder}/some where/asancol-{release()}/bin"
+    must([f"{programs}/asancol-cc", "-g", "examples/bug.c", "-o", f"{folder}/bug"])
+    ran = run([f"{folder}/bug", "Alice"], ASANCOL_RUN="")
+    expect((ran.status, ran.out, "examples/bug.c:11" in ran.err), (99, "Alice\n", True), ran.err)
+
+
+# On a machine with nothing: the commands that README begins with, and its own tests of a project.
+ON_BARE = """
+export DEBIAN_FRONTEND=noninteractive
+cd /root
+apt-get -q update && apt-get -q install --yes ./asancol_*.deb g++ clang make || exit 3
+cp -r /usr/share/doc/asancol/examples .
+asancol-cc -g examples/bug.c -o bug || exit 4
+./bug Alice 2> bug.txt
+[ $? = 99 ] && grep 'examples/bug.c:11' bug.txt && grep 'examples/bug.c:12' bug.txt || exit 5
+asancol-run --doctor || exit 6
+make -C examples/farms/project -f simple.mk split join || exit 7
+asancol-run -- examples/farms/project/split && ! asancol-run -- examples/farms/project/join || exit 8
+apt-get -q purge --yes asancol || exit 9
+rm -r /root/*
+! find / -xdev -name '*asancol*' -not -path '/var/log/*' | grep . || exit 10
+"""
+
+
+def bare_machine(_: str, folder: str, release_of_debian: str) -> None:
+    """A minimal system of Debian gets the package and a compiler, finds the bugs, and has nothing of it at the end."""
+    root = f"{folder}/root"
+    must(["mmdebstrap", "--variant=minbase", "--format=directory", release_of_debian, root])
+    shutil.copy(f"{folder}/{os.path.basename(package_of(folder))}", f"{root}/root")
+    argv = ["unshare", "--mount", "--pid", "--fork", f"--mount-proc={root}/proc", "chroot", root, "sh", "-c", ON_BARE]
+    ran = run(argv, ASANCOL_RUN="")
+    expect(ran.status, 0, f"{ran.out[-3000:]}{ran.err[-3000:]}")
+
+
+def on_bookworm(program: str, folder: str) -> None:
+    bare_machine(program, folder, "bookworm")
+
+
+def on_trixie(program: str, folder: str) -> None:
+    bare_machine(program, folder, "trixie")
+
+
 # What a test needs that installs: ./asancol, up to date.
 BUILT = "./asancol"
 
@@ -261,6 +311,14 @@ TESTS: List[Tuple[str, Callable[[str, str], None], Tuple[str, ...]]] = [
     ("package: lintian", package_has_no_error, (BUILT, "dpkg-deb", "dpkg-shlibdeps", "lintian")),
     ("package: whole", package_is_whole, (BUILT, "dpkg-deb", "dpkg-shlibdeps")),
     ("package: a bug", package_finds_a_bug, (BUILT, "dpkg-deb", "dpkg-shlibdeps", "dpkg", "cc", "c++")),
+    ("archive of the build", archive_works_elsewhere, (BUILT, "cc")),
+]
+
+# Minutes each, most of them for Debian's archive: only if a word asks for them.
+BARE = "bare machine"
+BARE_TESTS = [
+    (f"{BARE}: bookworm", on_bookworm, (BUILT, "mmdebstrap", "dpkg-shlibdeps")),
+    (f"{BARE}: trixie", on_trixie, (BUILT, "mmdebstrap", "dpkg-shlibdeps")),
 ]
 
 
@@ -291,7 +349,8 @@ class Packages(Suite):
         super().__init__(words)
         of_words = [(name, lambda program, _, test=test: test(program), it)
                     for name, test, it in [*completions.TESTS, *test_quick.TESTS]]
-        for name, test, needed in [*of_words, *TESTS, *maintaining.TESTS]:
+        bare = BARE_TESTS if any(it.startswith(BARE) for it in words) else []
+        for name, test, needed in [*of_words, *TESTS, *bare, *maintaining.TESTS]:
             self.test(name, check, test, program, needed)
 
 

@@ -7,7 +7,7 @@ import resource
 import shlex
 import subprocess
 import tempfile
-from typing import Dict, List, Optional, Tuple
+from typing import Dict, List, Optional, Set, Tuple
 
 from . import RELEASE
 from .symbols import find_tool, is_llvm, on_path
@@ -31,6 +31,8 @@ int main(void) {
 OVERFLOW, LINE = "heap-buffer-overflow", f"sample.c:{SAMPLE[:SAMPLE.index('/* here')].count(chr(10)) + 1}"
 LEAK = "leak of 16 byte(s)"
 REPORTED = 99
+# In the line of a run with all that it saw.
+SUMMARY = "; all complete"
 # Seconds that one command may take.
 PATIENCE = 60
 
@@ -48,11 +50,17 @@ class Doctor:
         self.folders = [os.path.dirname(run), os.path.join(os.path.dirname(run), "..", "recorder"),
                         os.path.join(os.path.dirname(run), ".."), beside]
         self.counts: Dict[str, int] = {"error": 0, "warning": 0}
+        self.warned: Set[str] = set()
 
     def say(self, what: str, text: str) -> None:
         print(f"{what}: {text}", flush=True)
         if what in self.counts:
             self.counts[what] += 1
+
+    def warn(self, text: str) -> None:
+        if text not in self.warned:
+            self.say("warning", text)
+        self.warned.add(text)
 
     def find(self, name: str) -> Optional[str]:
         """Returns where a program of asancol is: beside asancol-run, or on the path."""
@@ -134,18 +142,29 @@ class Doctor:
             return
         alone = {it: value for it, value in os.environ.items() if it != "ASANCOL_RUN"}
         for how, argv in (("under asancol-run", [self.run, "--", "./sample"]), ("by itself", ["./sample"])):
-            self.judge(f"{name}: a sample program {how}", *ask(argv, folder, alone))
+            self.judge(name, how, *ask(argv, folder, alone))
 
-    def judge(self, what: str, status: int, text: str) -> None:
+    def judge(self, name: str, how: str, status: int, text: str) -> None:
         """Says whether a run found both bugs, and what it printed if it did not."""
+        what = f"{name}: a sample program {how}"
         found = {"the overflow": OVERFLOW in text, "its line": LINE in text, "the leak": LEAK in text,
                  f"status {REPORTED}": status == REPORTED}
         lacks = [it for it, is_there in found.items() if not is_there]
         if not lacks:
             self.say("ok", f"{what}: its two bugs are found")
+            self.warn_of(name, text)
             return
         self.say("error", f"{what}: without {', '.join(lacks)}; it ended with status {status}, and printed:")
         print("".join(f"    {line}\n" for line in text.splitlines()), end="", flush=True)
+
+
+    def warn_of(self, name: str, text: str) -> None:
+        """Passes on what a run says besides its reports, once."""
+        for line in text.splitlines():
+            front, colon, rest = line.partition(": ")
+            skipped = line.partition("; not checked: ")[2]
+            if front == "asancol" and colon and (skipped or SUMMARY not in rest):
+                self.warn(f"{name}: {f'not checked: {skipped}' if skipped else rest}")
 
 
 def limit_of(what: int) -> Optional[int]:

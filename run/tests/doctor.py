@@ -46,6 +46,14 @@ def check_limited(suite: Suite, folder: str) -> None:
                  "    asancol: ")
 
 
+def check_unchecked(suite: Suite, folder: str) -> None:
+    """A run of the sample that checks less says so once."""
+    ran = ask(suite, ASANCOL_MISMATCHES="0")
+    line = "warning: asancol-cc: not checked: families and sizes of frees (ASANCOL_MISMATCHES=0)\n"
+    expect_lines(ran, 0, "note: ASANCOL_MISMATCHES=0 is set\n", line)
+    expect(ran.out.count(line), 1, ran.out)
+
+
 def check_leaks_off(suite: Suite, folder: str) -> None:
     """A setting that turns something off is seen in the sample."""
     ran = ask(suite, ASAN_OPTIONS="detect_leaks=0")
@@ -54,5 +62,6 @@ def check_leaks_off(suite: Suite, folder: str) -> None:
 
 def tests(suite: Suite) -> None:
     for name, check in (("a healthy machine", check_healthy), ("nothing there", check_lacking),
-                        ("a limit", check_limited), ("leaks turned off", check_leaks_off)):
+                        ("a limit", check_limited), ("leaks turned off", check_leaks_off),
+                        ("less checked", check_unchecked)):
         suite.test(f"doctor: {name}", check)
