@@ -328,6 +328,8 @@ static void pass_word(struct options *options, const struct option *option, cons
     if (option->offset == AT(live))
         options->live = (enum live)place;
     options->has_output |= strcmp(value, "github") == 0; /* annotations are made by the report alone */
+    if (strcmp(option->name, "format") == 0)
+        options->are_lines = strcmp(value, "gcc") == 0 || strcmp(value, "github") == 0;
     pass(options, dashed, value);
 }
 
@@ -534,6 +536,8 @@ struct options options_read(char **argv)
     else
         asan_take(&options);
     follow_recorder(&options);
+    if (options.are_lines && options.live == LIVE_ACCESS)
+        options.live = LIVE_END; /* no process waits for a text that does not come */
     bool has_marker = options.unchecked != UNCHECKED_NO && options.served == 0;
     if (!options.are_files)
         options.preloaded = preload_value(options.preloads, has_marker, &options.preload_note);

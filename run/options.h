@@ -27,6 +27,7 @@ struct options {
     double timeout; /* 0: none */
     bool quiet, verbose, crashes;
     enum live live;
+    bool are_lines;         /* the text: those of a compiler, or annotations, and all come at the end */
     bool no_mismatches;     /* of families of functions that allocate: they are not noted */
     bool records_full;      /* each malloc and free */
     bool preloads;          /* the recorder into programs that asancol-cc did not build */

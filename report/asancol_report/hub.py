@@ -3,11 +3,12 @@ are such runs too: asancol-run is started for each process of them."""
 
 from __future__ import annotations
 
+import array
 import json
 import os
 import socket
 from contextlib import suppress
-from typing import Callable, Dict, List, Optional, Set
+from typing import Callable, Dict, List, Optional, Set, Tuple
 
 from .errors import Broken, reason
 from .findings import Finding, Tally
@@ -21,8 +22,6 @@ from .symbols import on_path
 
 MAX_PACKET_SIZE = 1 << 16
 MAX_DESCRIPTORS = 16
-# No program that this one starts gets what came.
-FLAGS = socket.MSG_CMSG_CLOEXEC
 # What asancol-run ends with if it can't begin.
 OWN_FAILURE = 125
 # How a trace ends that was not read to its end.
@@ -33,6 +32,18 @@ MAX_PROCESSES = 1 << 24
 
 def without_reports(process: Process) -> Process:
     return process._replace(is_complete=False, is_abrupt=False, why="its reports did not arrive")
+
+
+def receive(packets: socket.socket) -> Tuple[bytes, List[int]]:
+    """Returns a packet and its descriptors, which no program that this one starts has: with its connection open there,
+    a process would wait for a report that does not come. socket.recv_fds takes no heed of flags in Python 3.11."""
+    numbers = array.array("i")
+    room = socket.CMSG_LEN(MAX_DESCRIPTORS * numbers.itemsize)
+    text, ancillary, _, _ = packets.recvmsg(MAX_PACKET_SIZE, room, socket.MSG_CMSG_CLOEXEC)
+    for level, kind, data in ancillary:
+        if (level, kind) == (socket.SOL_SOCKET, socket.SCM_RIGHTS):
+            numbers.frombytes(data[:len(data) - len(data) % numbers.itemsize])
+    return text, list(numbers)
 
 
 # Takes a finding, the file to which its process prints it, and the connection on which that waits for the text.
@@ -70,9 +81,9 @@ class Hub:
     def read_packets(self, packets: socket.socket) -> None:
         with packets:
             while True:
-                text, descriptors, _, _ = socket.recv_fds(packets, MAX_PACKET_SIZE, MAX_DESCRIPTORS, FLAGS)
+                text, descriptors = receive(packets)
                 try:
-                    if not text or self.take(text, list(descriptors)) == "end":
+                    if not text or self.take(text, descriptors) == "end":
                         break
                 finally:
                     for each in descriptors:

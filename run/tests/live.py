@@ -174,8 +174,33 @@ def check_bound(suite: Suite, folder: str) -> None:
         started.communicate()
 
 
+LOOKS = """#!/bin/sh
+readlink /proc/$$/fd/* >> {log}
+exec llvm-symbolizer "$@"
+"""
+
+
+def check_not_printed(suite: Suite, folder: str) -> None:
+    """A process does not wait for a report that is not printed: nothing keeps its connection open, also in what
+    asancol-report starts; and with lines as a compiler's, or annotations, it does not even ask."""
+    program = build(folder)
+    write_text(f"{folder}/symbolizer", LOOKS.format(log=f"{folder}/descriptors"), 0o755)
+    write_text(f"{folder}/known", "fun:past\n")
+    ran = suite.run("--suppressions", f"{folder}/known", "--", program, "past", ASANCOL_REPORT=REPORT,
+                    ASANCOL_SYMBOLIZER=f"{folder}/symbolizer")
+    expect_ran(ran, 0, "asancol: no reports, 1 suppressed; ")
+    with open(f"{folder}/descriptors", encoding="utf-8") as file:
+        seen = file.read()
+    expect(("memfd:asancol-report" in seen, "socket:" in seen), (True, False), seen)
+    for form, wanted in (("gcc", ""), ("github", ""), ("asan", "1")):
+        ran = suite.run(f"--format={form}", "--", "sh", "-c", f"echo \"<$ASANCOL_LIVE>\"; {program} past",
+                        ASANCOL_REPORT=REPORT)
+        expect((ran.status, ran.out.splitlines()[0]), (99, f"<{wanted}>"), form)
+
+
 def tests(suite: Suite) -> None:
     suite.test("live, order", check_order)
+    suite.test("live, not printed", check_not_printed)
     suite.test("live, ways", check_ways)
     suite.test("live, same block", check_same_block)
     suite.test("live, many", check_many)
