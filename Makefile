@@ -143,9 +143,9 @@ check-run: asancol recorder run
 	$(if $(SANITIZE),$(MAKE) -C run asancol-run-sanitized)
 	$(if $(SANITIZE),SANITIZE=1) run/tests/check.py $(if $(REST),--rest) ./asancol
 
-# Small projects under ctest, meson, automake, GNU parallel, ssh, pytest, Slurm and in sandboxes; and one with jobs for
-# AddressSanitizer, whose compiler alone is changed: within two minutes. What needs a tool that is not there is left
-# out, and it says which.
+# Small projects in CI jobs, under GNU parallel, ssh, Slurm and in sandboxes; and one with jobs for AddressSanitizer,
+# whose compiler alone is changed: within three minutes. What needs a tool that is not there is left out, and it says
+# which. With buildah and mmdebstrap an image is made, too, of packages that are fetched, in some minutes.
 check-farm: asancol recorder run
 	tests/farms.py ./asancol
 

@@ -5,9 +5,9 @@ report.
 usage: tests/farms.py [--list] [--junit FILE] ASANCOL [WORD..]
 
 With words, only recipes whose names have one of them. A recipe whose tool is not there is left out, and a line says so.
-Each runs in a copy of the folder `project`. The page docs/FARMS.md has to have the commands of each. And projects come
-from AddressSanitizer by changing the compiler alone (switching.py). Tests of frameworks fail by reports
-(frameworks.py).
+Each runs in a copy of the folder `project`. The page docs/FARMS.md has to have the commands of each, and the blocks of
+docs/CI.md are run as they stand (ci.py). And projects come from AddressSanitizer by changing the compiler alone
+(switching.py). Tests of frameworks fail by reports (frameworks.py).
 """
 
 import contextlib
@@ -21,11 +21,13 @@ import socket
 import subprocess
 import sys
 import tempfile
-import xml.etree.ElementTree
 from typing import Callable, Dict, Iterator, List, NamedTuple, Sequence, Set, Tuple
 
-sys.path.insert(0, f"{os.path.dirname(os.path.realpath(__file__))}/..")  # where `testing` is
+HERE = os.path.dirname(os.path.realpath(__file__))
+sys.path.insert(0, f"{HERE}/..")  # where `testing` is
+sys.path.append(f"{HERE}/../recorder/tests")  # where `real` is
 
+import ci
 import frameworks
 import switching
 from testing import TOP, Failure, LeftOut, Suite, expect, expect_in, suite, wait_until, write_text
@@ -47,31 +49,6 @@ def text_of(path: str) -> str:
 
 
 # How each engine shows a test.
-
-def of_junit(path: str) -> Statuses:
-    """Passed or failed, from JUnit XML as ctest and pytest write it."""
-    cases = xml.etree.ElementTree.parse(path).iter("testcase")
-    return {re.sub(r".*\[(\w+)\]", r"\1", case.attrib["name"]):
-            "passed" if case.find("failure") is None else "failed" for case in cases}
-
-
-def of_ctest(folder: str) -> Statuses:
-    return of_junit(f"{folder}/build/ctest.xml")
-
-
-def of_pytest(folder: str) -> Statuses:
-    return of_junit(f"{folder}/pytest.xml")
-
-
-def of_meson(folder: str) -> Statuses:
-    lines = text_of(f"{folder}/build/meson-logs/testlog-asancol-run.json").splitlines()
-    entries = [json.loads(line) for line in lines]
-    return {entry["name"]: entry["result"] for entry in entries}
-
-
-def of_automake(folder: str) -> Statuses:
-    return {name: re.findall(r":test-result: (\w+)", text_of(f"{folder}/{name}.trs"))[0] for name in TESTS}
-
 
 def of_parallel(folder: str) -> Statuses:
     rows = [line.split("\t") for line in text_of(f"{folder}/jobs.txt").splitlines()[1:]]
@@ -228,16 +205,9 @@ class Recipe(NamedTuple):
     has_vendor: bool = True  # whether a test that was not recorded has a result
 
 
-FAILED_BUT_SPLIT = {name: "passed" if name == "split" else "failed" for name in TESTS}
 RECIPES = [
-    Recipe("ctest.sh", ("cmake", "ctest"), of_ctest, FAILED_BUT_SPLIT),
-    Recipe("meson.sh", ("meson", "ninja"), of_meson,
-           {"split": "OK", "join": "ERROR", "child": "ERROR", "wait": "FAIL", "vendor": "SKIP"}),
-    Recipe("automake.sh", ("autoreconf", "automake"), of_automake,
-           {"split": "PASS", "join": "ERROR", "child": "ERROR", "wait": "FAIL", "vendor": "SKIP"}),
     Recipe("parallel.sh", ("parallel",), of_parallel, USUAL),
     Recipe("ssh.sh", ("parallel", "sshd", "ssh", "ssh-keygen"), of_parallel, USUAL, ssh_nodes),
-    Recipe("pytest.sh", ("pytest",), of_pytest, FAILED_BUT_SPLIT),
     Recipe("slurm.sh", ("sbatch", "srun", "scontrol", "slurmctld", "slurmd", "munged"), of_slurm,
            {name: f"{'FAILED' if name != 'split' else 'COMPLETED'} {status}" for name, status in USUAL.items()},
            slurm_cluster, "test $(id -u) = 0"),
@@ -310,8 +280,7 @@ def check_recipe(suite: "Farm", folder: str, recipe: Recipe) -> None:
         try:
             expect(ran.status, 1)  # that of asancol-report
             expect(recipe.statuses(project), recipe.wanted, "statuses")
-            results = glob.glob(f"{project}/results/*.jsonl") + glob.glob(f"{project}/build/results/*.jsonl")
-            expect_results(recipe, results)
+            expect_results(recipe, glob.glob(f"{project}/results/*.jsonl"))
             expect_merged(ran.out, text_of(f"{project}/report.html"))
         except (Failure, OSError, KeyError, IndexError) as error:
             raise Failure(f"{error!r}\n{ran.out[-2000:]}\n{ran.err[-3000:]}") from None
@@ -349,7 +318,7 @@ def find(tool: str) -> str:
 def why_not(recipe: Recipe) -> str:
     """Returns why a recipe can't run here, or nothing."""
     for tool in recipe.tools:
-        if not find(tool) and not (tool == "pytest" and find("pytest-3")):
+        if not find(tool):
             return f"{tool} is not there"
     if recipe.needs and not runs_quietly(["sh", "-c", recipe.needs], dict(os.environ)):
         return f"`{recipe.needs}` fails"
@@ -363,12 +332,8 @@ class Farm(Suite):
         super().__init__(words)
         self.folder = tempfile.mkdtemp(prefix="asancol-tests-")
         signal.signal(signal.SIGTERM, lambda number, frame: sys.exit(143))
-        programs = f"{self.folder}/bin"
-        os.mkdir(programs)
-        if not find("pytest") and find("pytest-3"):
-            os.symlink(find("pytest-3"), f"{programs}/pytest")
         self.settings = {
-            "PATH": ":".join([programs, *(f"{TOP}/{it}" for it in ("recorder", "recorder/cargo", "run", "report")),
+            "PATH": ":".join([*(f"{TOP}/{it}" for it in ("recorder", "recorder/cargo", "run", "report")),
                               os.environ.get("PATH", os.defpath)]),
             "ASANCOL": asancol,
             "ASANCOL_REPORT": REPORT,
@@ -378,6 +343,7 @@ class Farm(Suite):
             name = recipe.script.split(".")[0]
             self.test(f"page: {name}", check_page, recipe)
             self.test(f"recipe: {name}", check_recipe, recipe)
+        ci.add_tests(self, self.folder, asancol)
         frameworks.add_tests(self, self.settings)
         switching.add_tests(self, self.settings)
 

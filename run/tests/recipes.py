@@ -47,37 +47,6 @@ def check_hidden(suite: Suite, folder: str) -> None:
     expect("100% tests passed" in ran.out, True, ran.out)
 
 
-def check_memcheck(suite: Suite, folder: str) -> None:
-    """ctest -T memcheck shows no status, but the output is in its logs."""
-    argv = [f"-DMEMORYCHECK_COMMAND={RUN}", "-DMEMORYCHECK_TYPE=Valgrind", "-DMEMORYCHECK_COMMAND_OPTIONS=-q"]
-    write_cmake(suite, folder, *argv)
-    ran = suite.run_argv(["ctest", "-T", "memcheck"], cwd=f"{folder}/build")
-    logs = ""
-    for path, _, names in os.walk(f"{folder}/build/Testing"):
-        for name in names:
-            if "MemoryChecker" in name and name.endswith(".log"):
-                with open(f"{path}/{name}", encoding="utf-8") as log:
-                    logs += log.read()
-    expect("1 - good" not in ran.out.split("FAILED:")[-1] and "the report" in logs + ran.out, True, ran.out + logs)
-
-
-def check_scripts(suite: Suite, folder: str) -> None:
-    """Tests of automake with an extension: their compiler is another one."""
-    write_programs(folder)
-    with open(f"{folder}/configure.ac", "w", encoding="utf-8") as file:
-        file.write("AC_INIT([sample], [1])\nAM_INIT_AUTOMAKE([foreign])\nAC_PROG_CC\n")
-        file.write("AC_CONFIG_FILES([Makefile])\nAC_OUTPUT\n")
-    with open(f"{folder}/Makefile.am", "w", encoding="utf-8") as file:
-        file.write("TEST_EXTENSIONS = .sh\nTESTS = script.sh\ncheck_PROGRAMS = bad\nbad_SOURCES = bad.c\n")
-    with open(f"{folder}/script.sh", "w", encoding="utf-8") as file:
-        file.write("./bad\n")
-    for argv in (["autoreconf", "-i"], ["./configure", f"CC={CC}"]):
-        made = suite.run_argv(argv, cwd=folder)
-        expect(made.status, 0, made.out + made.err)
-    ran = suite.run_argv(["make", "check", f"SH_LOG_COMPILER={RUN} -q -- sh"], cwd=folder)
-    expect("ERROR: script.sh" in ran.out, True, ran.out + ran.err)
-
-
 def check_unittest(suite: Suite, folder: str) -> None:
     """Programs that a test of Python starts."""
     lines: List[str] = [
@@ -129,8 +98,6 @@ def tests(suite: Suite) -> None:
     for tool, name, run_it in (
         ("make", "make -j", check_make),
         ("ctest", "ctest that hides a report", check_hidden),
-        ("ctest", "ctest -T memcheck", check_memcheck),
-        ("autoreconf", "automake, scripts", check_scripts),
     ):
         if shutil.which(tool):
             suite.test(f"recipe: {name}", run_it)
