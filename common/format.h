@@ -136,10 +136,11 @@ enum { SIDE_UNCHECKED_ROOM = 1 << 14, SIDE_UNCHECKED = SIDE_INDEX - SIDE_UNCHECK
 #define SIDE_THREADS_AT (SIDE_INDEX + EVENT_LIMIT * SIDE_INDEX_ENTRY)
 #define SIDE_FAULTS_AT (SIDE_THREADS_AT + SIDE_THREADS * sizeof(struct side_thread))
 #define SIDE_STACKS_AT (SIDE_FAULTS_AT + SIDE_FAULTS * sizeof(struct side_fault))
-/* The longest text among the stacks. */
-enum { SIDE_TEXT = 1 << 12 };
+/* The longest text among the stacks; and the longest name of a test there, with a zero after it. */
+enum { SIDE_TEXT = 1 << 12, SIDE_TEST = 256 };
 /* How many words of 8 bytes the stacks may have. */
 #define SIDE_STACK_WORDS ((uint32_t)1 << 22)
+#define SIDE_TEST_MASK (((uint32_t)1 << 24) - 1)
 #define SIDE_ROOM (SIDE_STACKS_AT + SIDE_STACK_WORDS * sizeof(uint64_t))
 
 /* Up to this many files of modules may come after the descriptor of the memory: the program, and shared objects. */
@@ -244,7 +245,7 @@ struct side_settings {
 /* Further data of threads, beside the list of them. */
 struct side_beside_threads {
     uint32_t last; /* the one that the signal has met that ended the process: as of a fault */
-    uint32_t spare;
+    uint32_t test; /* that was running then: as of a fault */
     char first_name[SIDE_THREAD_NAME]; /* that the first thread was given; empty: none */
 };
 
@@ -275,7 +276,8 @@ struct side_fault {
     uint64_t block;     /* the start of the nearest block or variable; 0: none is near */
     uint64_t block_size;
     uint64_t allocated, freed; /* the call sites of the block's malloc and of its free; 0: not known, or not freed */
-    uint32_t variable;         /* enum variable */
+    uint32_t variable : 8;     /* enum variable */
+    uint32_t test : 24;        /* the name of the test that was running: a text among the stacks; 0: none is known */
     uint32_t line;             /* where a variable of a frame is declared; 0: not known */
     /* The stacks of these three call sites: the number of the word with how many frames there are. These come after it,
        the innermost first. 0: only the call site is known. */
@@ -312,5 +314,6 @@ _Static_assert(SIDE_BESIDE_THREADS + sizeof(struct side_beside_threads) <= SIDE_
 _Static_assert(sizeof(struct side_thread) == 40, "a thread has no padding");
 _Static_assert(sizeof(struct side_fault) == 456, "a fault has no padding");
 _Static_assert(SIDE_FAULTS_AT % 8 == 0, "faults are aligned");
+_Static_assert(SIDE_STACK_WORDS <= SIDE_TEST_MASK, "a fault has room for the number of a text");
 
 #endif

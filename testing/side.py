@@ -111,11 +111,13 @@ Parts = List[Tuple[int, bytes]]
 def fault(place: int = 0, block: int = 0, size: int = 0, allocated: int = 0, freed: int = 0, variable: int = 0,
           line: int = 0, name: str = "", stacks: Tuple[int, int, int] = (0, 0, 0),
           threads: Tuple[int, int, int] = (0, 0, 0), access: Tuple[int, int] = (0, 0), shadow: bytes = b"",
-          shadow_start: int = 0, frame: Tuple[int, int] = (0, 0), variables: int = 0, call: str = "") -> bytes:
-    """Returns a fault. `access` is the start and the size of all of it, and `frame` where that of a variable begins,
-    and an address in its function."""
-    return layout.FAULT.pack(1, place, block, size, allocated, freed, variable, line, *stacks, *threads, *access,
-                             shadow_start, *frame, variables, 0, shadow, call.encode(), name.encode()[:120])
+          shadow_start: int = 0, frame: Tuple[int, int] = (0, 0), variables: int = 0, call: str = "",
+          test: int = 0) -> bytes:
+    """Returns a fault. `access` is the start and the size of all of it, `frame` where that of a variable begins, and
+    an address in its function, and `test` the number of a text."""
+    return layout.FAULT.pack(1, place, block, size, allocated, freed, variable | test << layout.TEST_SHIFT, line,
+                             *stacks, *threads, *access, shadow_start, *frame, variables, 0, shadow,
+                             call.encode(), name.encode()[:120])
 
 
 def finding(kind: int, place: int = 0, block: int = 0, size: int = 0, allocated: int = 0, call: str = "",
@@ -138,9 +140,9 @@ def side(maps: str = "", builds: Sequence[Tuple[int, str]] = (), faults: Sequenc
          stacks: Sequence[int] = (), needed: int = 1, segment: int = 1, stated: int = 0, is_at_limit: bool = False,
          quarantine: int = 1 << 28, noted: int = 0, calls: int = 0, starts: int = 0, has_checks: int = 1,
          has_begun: int = 1, threads: Sequence[bytes] = (), last_thread: int = 0, first_name: str = "",
-         findings: int = 0, findings_lost: int = 0, leaks: int = 0, leaks_missed: int = 0, left_good: int = 0,
-         inside: int = 0, closed_off: int = 0, sender: int = 0, skipped: int = 0, used_again: int = 0,
-         header: bytes = layout.HEADER) -> Parts:
+         last_test: int = 0, findings: int = 0, findings_lost: int = 0, leaks: int = 0, leaks_missed: int = 0,
+         left_good: int = 0, inside: int = 0, closed_off: int = 0, sender: int = 0, skipped: int = 0,
+         used_again: int = 0, header: bytes = layout.HEADER) -> Parts:
     """Returns a side memory. The first word of the stacks is of none. Segments are counted from 1."""
     parent = 1
     head = layout.HEAD.pack(header, events, left_out, ending, signal, process, parent, started, has_checks,
@@ -150,7 +152,7 @@ def side(maps: str = "", builds: Sequence[Tuple[int, str]] = (), faults: Sequenc
     progress = layout.PROGRESS.pack(needed, segment - 1, stated, noted, *[0] * 4, calls, starts, has_begun, findings,
                                     findings_lost, leaks, leaks_missed, left_good, inside, closed_off, sender, skipped,
                                     *[0] * 33, used_again)
-    beside = layout.BESIDE_THREADS.pack(last_thread, 0, first_name.encode())
+    beside = layout.BESIDE_THREADS.pack(last_thread, last_test, first_name.encode())
     return [(0, head), (layout.ARGV_AT, names), (layout.BUILDS_AT, ids), (layout.PROGRESS_AT, progress),
             (layout.BESIDE_THREADS_AT, beside),
             (MAPS_AT, maps.encode() + b"\0"), (INDEX_AT, struct.pack(f"<{len(index)}I", *index)),

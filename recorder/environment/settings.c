@@ -52,6 +52,7 @@ static const char *const names[] = {
     "ASANCOL_POINTER_PAIRS",
     "ASANCOL_MAY_RETURN_NULL",
     "ASANCOL_TEXT",
+    "ASANCOL_TEST",
     "ASANCOL_LIVE",
 #define FRONT(name, end, variable, usual, has_new, links_libm) variable,
 #include "wrapper/fronts.def"

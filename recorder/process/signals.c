@@ -177,7 +177,10 @@ static void note_inside(int number, const struct met *met)
     static _Atomic bool is_noted;
     if (atomic_exchange(&is_noted, true) || !recorder_is_own_process())
         return;
-    side_note_last(&(struct side_last){met->registers.instruction + 1, met->address, 0, SIDE_NO_THREAD, met->how});
+    side_note_last(&(struct side_last){.call_site = met->registers.instruction + 1,
+                                       .address = met->address,
+                                       .thread = SIDE_NO_THREAD,
+                                       .how = met->how});
     side_note_inside(number);
     note_last(number, met);
 }

@@ -3,9 +3,9 @@
    the newest list (list_newest, lists.h).
 
    Called: fault_list_forget by faults.c when a list begins, in any thread, also in a handler, with the stream's
-   lock, or before there is a stream; the rest by faults.c and findings.c, in any thread, also in a handler. They
-   take no lock, only atomics; but list_back may take the stream's for a moment, to get room on the disk. Nothing is
-   allocated. */
+   lock, or before there is a stream; the rest by faults.c, findings.c and test_name.c, in any thread, also in a
+   handler. They take no lock, only atomics; but list_back may take the stream's for a moment, to get room on the disk.
+   Nothing is allocated. */
 #ifndef ASANCOL_FAULT_LIST_H
 #define ASANCOL_FAULT_LIST_H
 

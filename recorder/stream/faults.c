@@ -16,6 +16,7 @@
 #include "stream/near.h"
 #include "stream/side.h"
 #include "stream/state.h"
+#include "stream/test_name.h"
 #include "stream/thread_list.h"
 
 /* The faults at variables that were found last, by all that decides which they are, in the same form: a loop need not
@@ -68,13 +69,13 @@ static uint64_t first_bad(unsigned width, uint64_t address)
 
 /* The list. */
 
-/* Of what the access has of it: the call site with its stack, the kind, the size, the call, and the thread. Threads
-   count up to half of the list: those of a pool may meet in many ways. */
-static uint64_t hash_of_access(const struct list *list, enum code code, const struct side_fault *fault)
+/* Of what the access has of it: the call site with its stack, the kind, the size, the call, the thread, and the test.
+   Threads and tests count up to half of the list: those of a pool may meet in many ways. */
+static uint64_t hash_of_access(const struct list *list, enum code code, const struct side_fault *fault, uint64_t test)
 {
     uint64_t first = 1 + list_window(list), has_threads = atomic_load(&list->taken) < SIDE_FAULTS / 2;
     uint64_t hash = list_mix(list_mix(list_mix(list_mix(first, fault->call_site), fault->stack), code), fault->size);
-    return list_mix(fault_list_mix(hash, fault->call, SIDE_CALL), has_threads ? fault->thread : 0);
+    return list_mix(fault_list_mix(hash, fault->call, SIDE_CALL), has_threads ? fault->thread ^ test : 0);
 }
 
 /* Of what makes one fault in a list: also where the block was allocated and freed, with the stacks, and the name. */
@@ -146,7 +147,9 @@ static uint32_t find_fault(struct list *list, const struct access *access, unsig
     fault.thread = thread_number();
     fault_list_put_call(fault.call, access->call);
     keep_shadow(bad, &fault);
-    uint64_t hash = hash_of_access(list, access->code, &fault);
+    struct test_name test = test_name_put(list);
+    fault.test = test.number & SIDE_TEST_MASK;
+    uint64_t hash = hash_of_access(list, access->code, &fault, test.hash);
     bool is_of_block = is_in_arena(bad) && !is_frame_in_block(address, width);
     return is_of_block ? block_fault(list, hash, bad, &fault) : variable_fault(list, hash, bad, &fault);
 }
@@ -193,6 +196,7 @@ void fault_note_last(call_site last, uint64_t address, uint32_t how)
         .address = address,
         .stack = list_put_stack(list_newest(), last),
         .thread = list_put_thread(list_newest(), call_site_thread(last)),
+        .test = test_name_put(list_newest()).number,
         .how = how,
     });
 }

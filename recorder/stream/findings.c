@@ -15,6 +15,7 @@
 #include "stream/places.h"
 #include "stream/sending.h"
 #include "stream/state.h"
+#include "stream/test_name.h"
 
 static void put_text(char *to, const char *text, size_t room)
 {
@@ -76,7 +77,11 @@ static uint32_t note_in(struct list *list, const struct finding *finding)
 {
     struct side_progress *progress = (struct side_progress *)(list_bytes(list) + SIDE_PROGRESS);
     struct side_fault entry = entry_for(list, finding);
+    struct test_name test = test_name_put(list);
+    entry.test = test.number & SIDE_TEST_MASK;
     uint64_t hash = hash_of(list, &entry);
+    if (!is_leak(finding)) /* each search finds all leaks, also those of earlier tests */
+        hash = list_mix(hash, test.hash);
     if (entry.block == 0 && is_in_arena(finding->start))
         near_block(list, finding->start, &entry);
     uint32_t number = fault_list_add(list, hash, &entry);

@@ -2,10 +2,10 @@
    its own.
 
    Called: list_begin and list_forget_backed by faults.c, in any thread, also in a handler, with the stream's lock, or
-   before there is a stream; the rest by faults.c, fault_list.c, findings.c, near.c and thread_list.c, in any thread,
-   also in a handler, with or without the allocator's lock. No lock: the counts are atomic, and a thread fills what it
-   has counted for itself. But list_back, and who takes words or puts a text or a stack by it, may take the stream's for
-   a moment, to get room on the disk. */
+   before there is a stream; the rest by faults.c, fault_list.c, findings.c, near.c, test_name.c and thread_list.c, in
+   any thread, also in a handler, with or without the allocator's lock. No lock: the counts are atomic, and a thread
+   fills what it has counted for itself. But list_back, and who takes words or puts a text or a stack by it, may take
+   the stream's for a moment, to get room on the disk. */
 #ifndef ASANCOL_LISTS_H
 #define ASANCOL_LISTS_H
 

@@ -520,6 +520,7 @@ void side_note_last(const struct side_last *last)
     put_long(&side->last, last->call_site);
     put_word(&side->last_stack, last->stack);
     put_word(&beside_threads_in(side)->last, last->thread);
+    put_word(&beside_threads_in(side)->test, last->test);
     put_word(&side->how, last->how);
     put_long(&side->wrong_address, last->address);
 }

@@ -97,11 +97,11 @@ void side_note_closed_off(void);
 /* How the process ends, with this many events in the stream: ENDING_NONE takes an exec back. Lost events stay lost.
    (ending.c, keeping.c, suspending.c, switching.c) */
 void side_note_ending(enum ending ending, int number, uint64_t events);
-/* Where a signal has met it: the call site, with its stack and its thread as of a fault; the address that could not be
-   accessed, and enum side_how. (faults.c, process/signals.c) */
+/* Where a signal has met it: the call site, with its stack, thread and test as of a fault; the address that could not
+   be accessed, and enum side_how. (faults.c, process/signals.c) */
 struct side_last {
     uint64_t call_site, address;
-    uint32_t stack, thread, how;
+    uint32_t stack, thread, test, how;
 };
 void side_note_last(const struct side_last *last);
 /* The process ends itself at its first report. (process/halt.c) */

@@ -23,7 +23,7 @@ def name_of(side: Side, number: int) -> str:
         return "?"
     thread = side.thread(number)
     expect(number == 0 or (thread is not None and thread.system_number > 0), True, f"thread {number}")
-    name = thread.name if thread else side.beside_threads()[1]
+    name = thread.name if thread else side.beside_threads()[2]
     return f"T{thread.number if thread else 0}" + (f" ({name})" if name else "")
 
 

@@ -19,8 +19,7 @@ def level_of(finding: Finding) -> str:
 
 def words_of(finding: Finding) -> str:
     """Returns a finding in a sentence, without its place."""
-    near = f", {finding.where}" if finding.where else ""
-    return finding.title + near
+    return ", ".join(filter(None, (finding.title, finding.where, finding.in_tests)))
 
 
 def steps_of(finding: Finding) -> List[Tuple[str, Stack]]:

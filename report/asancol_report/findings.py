@@ -19,8 +19,9 @@ HEAP, STACK, GLOBAL, DYNAMIC = "heap", "stack", "global", "dynamic"
 # A bad byte no further from a block than this is in its own redzone: of another one nobody knows which block was meant.
 REDZONE = 32
 FINGERPRINT_DIGITS = 16
-# The most processes that a tally names.
-MAX_NUMBERS = 1000
+# The most processes and tests that a tally names, and the most tests in a line.
+MAX_NUMBERS = MAX_TESTS = 1000
+MAX_TESTS_SAID = 3
 # Of a block that the recorder has no notes on any more.
 FORGOTTEN = "freed long ago: its exact size and its stacks are no longer kept"
 # A file of the system, whose inlined functions stand in all programs: in an `include` below `/usr`, here or in a copy.
@@ -134,11 +135,17 @@ class Tally(NamedTuple):
     lost: Leaks = Leaks()  # of a leak: what all processes have lost there
     is_awaited: bool = False  # each process has halted there, which its parent has waited for
     numbers: Tuple[int, ...] = ()  # of the first processes in their run, up to MAX_NUMBERS; none: the first one's
+    tests: Tuple[str, ...] = ()  # in which it came up, the first ones, up to MAX_TESTS
 
     @property
     def moment(self) -> Tuple[int, int, bool, int]:
         """When it was, seen from others of its process."""
         return self.segment, self.event or self.after, not self.event, self.number
+
+
+def joined(each: Iterable[Tuple[str, ...]]) -> Tuple[str, ...]:
+    """Returns the first names of tests, each once."""
+    return tuple(dict.fromkeys(name for names in each for name in names))[:MAX_TESTS]
 
 
 class Place(NamedTuple):
@@ -211,6 +218,22 @@ class Finding:
     @property
     def processes(self) -> int:
         return sum(tally.processes for tally in self.runs.values())
+
+    @property
+    def tests(self) -> Tuple[str, ...]:
+        """The tests that were running."""
+        return joined(tally.tests for tally in self.runs.values())
+
+    @property
+    def in_tests(self) -> str:
+        """The first tests in words; nothing, if none is known."""
+        tests = self.tests
+        if len(tests) < 2:
+            return f"in test {tests[0]}" if tests else ""
+        first = tests[:MAX_TESTS_SAID]
+        more = [f"{len(tests) - len(first)} more"] if len(tests) > len(first) else []
+        *others, last = (*first, *more)
+        return f"in tests {', '.join(others)} and {last}"
 
     @property
     def first(self) -> Tally:

@@ -12,8 +12,8 @@ from typing import Callable, cast, Dict, Hashable, List, NamedTuple, Optional, T
 from .by_recorder import definition, FORMS, lost_at
 from .class_names import class_of, INDIRECT_LEAK, LEAK
 from .crashes import STACK_OVERFLOW
-from .findings import (Block, DYNAMIC, Finding, Frame, GLOBAL, HEAP, MAX_NUMBERS, Rows, STACK, Stack, Tally, Thread,
-                       Threads, UNKNOWN_THREAD)
+from .findings import (Block, DYNAMIC, Finding, Frame, GLOBAL, HEAP, MAX_NUMBERS, MAX_TESTS, Rows, STACK, Stack, Tally,
+                       Thread, Threads, UNKNOWN_THREAD)
 from .functions import is_standard
 from .leaks import at_one_place, Leaks, Sum, SUMMARY, YES
 from .modules import CodeAddress, Modules
@@ -51,7 +51,8 @@ Key = Tuple[str, str, Optional[int], str, Calls, Calls, Calls, str]
 class Sighting:
     """Groups of one run that are the same."""
 
-    __slots__ = ("finding", "place", "allocated", "freed", "function", "created", "count", "processes", "first", "lost")
+    __slots__ = ("finding", "place", "allocated", "freed", "function", "created", "count", "processes", "first", "lost",
+                 "tests")
 
     def __init__(self, finding: Finding, places: Places, first: Tally) -> None:
         self.finding = finding
@@ -61,6 +62,11 @@ class Sighting:
         self.processes = 0  # a bit for each, since there may be many
         self.first = first
         self.lost = Leaks()
+        self.tests: Dict[str, None] = {}
+
+    def tally(self) -> Tally:
+        """Returns the tally of its first time, with the tests of all."""
+        return self.first._replace(tests=tuple(self.tests)[:MAX_TESTS])
 
 
 class Places(NamedTuple):
@@ -155,7 +161,7 @@ class Gatherer:
             self.symbols.look_up()
             found = [self.complete(sighting) for sighting in self.sightings.values()]
             for finding, sighting in zip(found, self.sightings.values()):
-                finding.runs = {self.run: sighting.first}
+                finding.runs = {self.run: sighting.tally()}
         finally:
             self.sightings = kept
         if self.results.has_addresses:
@@ -258,6 +264,8 @@ class Gatherer:
         elif time_of(tally) < time_of(sighting.first):
             # A later process may end before an earlier one, and a later segment be checked before.
             sighting.finding, sighting.first = finding, tally
+        if fault is not None and fault.test:
+            sighting.tests[fault.test] = None
         sighting.count += count
         sighting.processes |= 1 << tally.process
         return sighting
@@ -276,7 +284,7 @@ class Gatherer:
             self.seen_in[id(finding)] = before | sighting.processes
             added = bits_of(sighting.processes & ~before)
             times = sighting.count or int(known is None)  # pieces alone are none, if they are pieces of a known access
-            first = sighting.first._replace(times=times, processes=added, lost=sighting.lost,
+            first = sighting.tally()._replace(times=times, processes=added, lost=sighting.lost,
                                             numbers=numbers_of(sighting.processes))
             self.results.add(finding, self.run, first)
             if self.results.has_log or self.is_each_kept:
@@ -303,7 +311,7 @@ class Gatherer:
                 crash = STACK_OVERFLOW if last.is_stack_used_up else ""
                 processes[number] = processes[number]._replace(
                     stack=self.stack(calls, ""), address=last.address, access=last.access, crash=crash,
-                    threads=self.with_stacks(threads, created))
+                    threads=self.with_stacks(threads, created), test=last.test)
                 if self.results.has_log:
                     self.came.processes.append(processes[number])
         self.last.clear()
@@ -371,7 +379,7 @@ class Gatherer:
 def finding_alone(sighting: Sighting, run: int) -> Finding:
     """Returns a finding as one process has it."""
     finding = copy(sighting.finding)
-    finding.runs = {run: sighting.first._replace(times=1, processes=1, lost=sighting.lost)}
+    finding.runs = {run: sighting.tally()._replace(times=1, processes=1, lost=sighting.lost)}
     return finding
 
 
@@ -434,7 +442,7 @@ def threads_of(side: Side, access: int, allocated: int = 0, freed: int = 0) -> T
         return found[number].number if number in found else UNKNOWN_THREAD if number else 0
 
     named = [Thread(it.number, order(it.creator), it.name, it.known_number) for it in found.values()]
-    first = side.beside_threads()[1]
+    first = side.beside_threads()[2]
     if first:
         named.append(Thread(0, name=first))
     return Threads(order(access), order(allocated), order(freed), tuple(named)), [it.created for it in found.values()]

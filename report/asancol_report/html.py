@@ -178,7 +178,7 @@ class Page:
             tag("span", self.title(finding), class_="title")
             + tag("span", tag("b", number(finding.count) + "×") + " " + tag("span", times), class_="count")
             + tag("span", function + tag("code", escape(place)), class_="place")
-            + (tag("span", escape(finding.where), class_="near") if finding.where else "")
+            + "".join(tag("span", escape(it), class_="near") for it in (finding.where, finding.in_tests) if it)
             + self.whose(finding)
         )
         kinds = ["card", *["quiet"] * (not finding.counts), *["small"] * finding.is_consequence]
@@ -198,7 +198,8 @@ class Page:
 
     def words(self, finding: Finding, place: str) -> str:
         """Returns where the filter looks for words: each function, file and module of all frames is there once."""
-        words = [finding.class_name, finding.title, finding.where, place, *(it.words for it in finding.threads.all)]
+        words = [finding.class_name, finding.title, finding.where, place, *finding.tests,
+                 *(it.words for it in finding.threads.all)]
         for _, stack, _ in titled_stacks(finding):
             for frame in stack:
                 words += [frame.function, shown_path(frame.file, self.root), shown_path(frame.module, self.root)]

@@ -10,8 +10,8 @@ from typing import Any, Callable, Dict, Iterable, Iterator, List, NamedTuple, Op
 from .class_names import LEAK
 from .crashes import Crash
 from .errors import Broken, reason
-from .findings import (Block, calls_to_leak, DYNAMIC, Finding, first_own, Frame, GLOBAL, HEAP, MAX_NUMBERS, near_of,
-                       Place, Rows, STACK, Stack, Tally, Thread, Threads, UNKNOWN_THREAD)
+from .findings import (Block, calls_to_leak, DYNAMIC, Finding, first_own, Frame, GLOBAL, HEAP, MAX_NUMBERS, MAX_TESTS,
+                       near_of, Place, Rows, STACK, Stack, Tally, Thread, Threads, UNKNOWN_THREAD)
 from .leaks import leak_text, Leaks
 from .reading import open_regular
 from .results import Process, Results, Run
@@ -85,6 +85,8 @@ def process_line(process: Process, run: int, crash: Optional[Crash], encode: Cal
         kept += ',"halted":true'
     if process.findings:
         kept += f',"findings":{process.findings}'
+    if process.test:
+        kept += f',"test":{encode(process.test)}'
     if process.segments > 1:
         kept += f',"segments":{process.segments}'
     if process.used_again:
@@ -113,6 +115,7 @@ def finding_line(tally: Tally, run: int, rest: str) -> str:
     segment += f'"after":{tally.after},' if tally.after else ""
     segment += f'"number":{tally.number},' if tally.number else ""
     segment += '"awaited":true,' if tally.is_awaited else ""
+    segment += f'"tests":{json.dumps(tally.tests, separators=SHORT)},' if tally.tests else ""
     segment += f'"seen_in":{[*tally.numbers]},'.replace(" ", "") if len(tally.numbers) > 1 else ""
     return (f'{{"type":"finding","run":{run},"count":{tally.times},"processes":{tally.processes},'
             f'"process":{tally.process},"pid":{tally.pid},"event":{tally.event},{segment}{rest[1:]}')
@@ -334,7 +337,7 @@ def process_of(entry: Entry, commands: Commands) -> Process:
                    next((it for it in ACCESSES.values() if it == get("access")), ""),
                    threads_of(entry) if "threads" in entry or "thread" in entry else NO_THREADS,
                    number_of(get("findings")), get("awaited") is True, number_of(get("used_again")),
-                   get("halted") is True, get("unsaid") is True)
+                   get("halted") is True, get("unsaid") is True, text_of(get("test")))
 
 
 def frame_of(entry: object) -> Frame:
@@ -423,7 +426,7 @@ def tally_of(entry: Entry) -> Tally:
     return Tally(number_of(get("count")), number_of(get("processes")), number_of(get("process")), number_of(get("pid")),
                  number_of(get("event")), number_of(get("segment")) or 1, number_of(get("after")),
                  number_of(get("number")), lost_of(entry), get("awaited") is True,
-                 numbers_of(get("seen_in")) or (number_of(get("process")),))
+                 numbers_of(get("seen_in")) or (number_of(get("process")),), words_of(get("tests"))[:MAX_TESTS])
 
 
 def lost_of(entry: Entry) -> Leaks:

@@ -1,5 +1,6 @@
-"""The report as JUnit XML: a test case for each run, and if that has processes of several commands, as a suite has, for
-each command. A test case passes if no report and no crash counts, the command did not fail, and all was complete."""
+"""The report as JUnit XML: a test case for each run, for each test that a report names, and if the run has processes of
+several commands, as a suite has, for each command. A test case passes if no report and no crash counts, the command did
+not fail, and all was complete."""
 
 from __future__ import annotations
 
@@ -42,17 +43,33 @@ class Case(NamedTuple):
     run: int
     processes: List[Process]
     is_run: bool  # it stands for the run as a whole
+    test: str = ""  # or for what came up in this test, in any process of the run
+
+    @property
+    def own_processes(self) -> List[Process]:
+        """Those of which the case says how they were recorded. Of those of a test another case says so."""
+        return [] if self.test else self.processes
 
 
-def cases_of(number: int, run: Run) -> List[Case]:
+def tests_of(results: Results) -> Dict[int, Dict[str, None]]:
+    """Returns the tests in which something came up, by run."""
+    tests: Dict[int, Dict[str, None]] = {}
+    for finding in (*results.counted(), *results.counted_crashes()):
+        for number, tally in finding.runs.items():
+            tests.setdefault(number, {}).update(dict.fromkeys(tally.tests))
+    return tests
+
+
+def cases_of(number: int, run: Run, tests: Iterable[str]) -> List[Case]:
     """Returns the test cases of a run. The processes of one command are one: most are children by a fork."""
     processes = [run.processes[it] for it in sorted(run.processes)]
     commands: Dict[Tuple[str, ...], List[Process]] = {}
     for process in processes:
         commands.setdefault(process.command, []).append(process)
+    of_tests = [Case(number, processes, False, test) for test in tests]
     if len(commands) < 2:
-        return [Case(number, processes, True)]
-    return [Case(number, [], True), *(Case(number, those, False) for those in commands.values())]
+        return [Case(number, processes, True), *of_tests]
+    return [Case(number, [], True), *(Case(number, those, False) for those in commands.values()), *of_tests]
 
 
 def part_of(finding: Finding, case: Case) -> Finding:
@@ -77,7 +94,8 @@ def failure(places: List[Finding], case: Case, results: Results, root: str) -> s
     for finding, part in zip(places, parts):
         if not isinstance(finding, Crash) and finding.follows not in all_of_case:
             text.write(text.finding(part))
-    text.write(text.crashes(results, filter(results.has_counted_crash, case.processes)))
+    text.write(text.crashes(results, (it for it in case.processes
+                                      if it.test == case.test and results.has_counted_crash(it))))
     text.write(commands_of(processes.get(part.runs[case.run].process) for part in parts))
     named = [named_place(finding, root) for finding in places[:MAX_NAMED]]
     if len(places) > MAX_NAMED:
@@ -101,7 +119,7 @@ def named_place(finding: Finding, root: str) -> str:
 
 def unseen(case: Case, run: Run) -> List[str]:
     """Returns why not all was seen."""
-    lines = incomplete_lines(process for process in case.processes if not process.is_complete)
+    lines = incomplete_lines(process for process in case.own_processes if not process.is_complete)
     return [*lines, *(f"asancol: {trouble}" for trouble in run.troubles if case.is_run)]
 
 
@@ -110,8 +128,8 @@ def outcome(case: Case, places: List[Finding], results: Results, root: str) -> T
     run = results.runs[case.run]
     incomplete, failed = unseen(case, run), run.failure if case.is_run else ""
     said = "\n".join([*incomplete, *[f"asancol: {failed}"] * bool(failed)])
-    beside = "\n".join([*abrupt_lines(process for process in case.processes if process.is_abrupt),
-                        *lines_of(filter(results.is_awaited, case.processes), lambda it: it.end)])
+    beside = "\n".join([*abrupt_lines(process for process in case.own_processes if process.is_abrupt),
+                        *lines_of(filter(results.is_awaited, case.own_processes), lambda it: it.end)])
     said = "\n".join(filter(None, (said, beside)))
     if places:
         body = failure(places, case, results, root)
@@ -135,7 +153,9 @@ def names_of(cases: List[Case], runs: List[Run]) -> List[str]:
         run = runs[case.run]
         command = command_line(run.command)
         name = first = (command or "run") + folders[command].get(run.directory, "")
-        if not case.is_run:
+        if case.test:
+            name = first = f"{first}: {case.test}"
+        elif not case.is_run:
             name = first = name_of(case.processes[0], run)
         while name in names:
             names[first] += 1
@@ -170,23 +190,27 @@ def places_of(results: Results, cases: List[Case]) -> List[List[Finding]]:
     """Returns the places of each test case."""
     owners: Dict[Tuple[int, int], int] = {}  # by run and process
     of_run: Dict[int, int] = {}
+    of_test: Dict[Tuple[int, str], int] = {}
     for at, case in enumerate(cases):
         if case.is_run:
             of_run[case.run] = at
-        owners.update(((case.run, process.number), at) for process in case.processes)
+        if case.test:
+            of_test[case.run, case.test] = at
+        owners.update(((case.run, process.number), at) for process in case.own_processes)
     places: List[List[Finding]] = [[] for _ in cases]
     for finding in (*results.counted(), *results.counted_crashes()):
         for number, tally in finding.runs.items():
             numbers = tally.numbers or (tally.process,)
-            found: Set[int] = {owners.get((number, it), of_run[number]) for it in numbers}
-            for at in found:
+            found: Set[int] = {of_test[number, it] for it in tally.tests}
+            for at in found or {owners.get((number, it), of_run[number]) for it in numbers}:
                 places[at].append(finding)
     return places
 
 
 def write(results: Results, out: TextIO, options: Options, sources: Sources) -> None:
     root = os.path.realpath(options.value("--source-root", "."))
-    cases = [case for number, run in enumerate(results.runs) for case in cases_of(number, run)]
+    tests = tests_of(results)
+    cases = [case for number, run in enumerate(results.runs) for case in cases_of(number, run, tests.get(number, ()))]
     outcomes = [outcome(case, places, results, root) for case, places in zip(cases, places_of(results, cases))]
     failures, errors = (sum(kind == name for kind, _ in outcomes) for name in ("failure", "error"))
     seconds = sum(run.seconds for run in results.runs)

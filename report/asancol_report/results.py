@@ -9,7 +9,7 @@ from typing import Dict, Iterable, List, NamedTuple, Optional, Tuple
 
 from .consequences import fold
 from .crashes import Crash, CRASH_CLASSES, CRASHES, end_text, line_of_crash
-from .findings import Finding, MAX_NUMBERS, Place, Stack, Tally, Threads
+from .findings import Finding, joined, MAX_NUMBERS, Place, Stack, Tally, Threads
 from .leaks import at_one_place, Leaks, total
 from .sources import Sources
 from .words import command_line, plural, signal_name
@@ -46,6 +46,7 @@ class Process(NamedTuple):
     used_again: int = 0  # how many bytes of blocks it had handed out when freed memory came again; 0: it never has
     has_halted: bool = False  # it has ended itself at its first report, by ASANCOL_HALT
     is_unsaid: bool = False  # and has left it to its run to print that
+    test: str = ""  # that was running when a signal ended it
 
     @property
     def name(self) -> str:
@@ -241,7 +242,8 @@ class Results:
                 place = (crash.class_name, crash.fingerprint, crash.top.line, crash.is_awaited)
                 known = self.crash_places.setdefault(place, crash)
                 tally = Tally(1, 1, process.number, process.pid, process.events, process.segments)
-                self.tally(known, number, tally._replace(numbers=(process.number,)))
+                self.tally(known, number, tally._replace(numbers=(process.number,),
+                                                         tests=(process.test,) if process.test else ()))
 
     def crash_of(self, process: Process) -> Optional[Crash]:
         """Returns what stands for the crash of a process; None, if it has not crashed."""
@@ -275,7 +277,8 @@ class Results:
             tally = before._replace(times=before.times + tally.times, processes=before.processes + tally.processes,
                                     lost=at_one_place([before.lost, tally.lost]),
                                     is_awaited=before.is_awaited and tally.is_awaited,
-                                    numbers=tuple(sorted({*before.numbers, *tally.numbers})[:MAX_NUMBERS]))
+                                    numbers=tuple(sorted({*before.numbers, *tally.numbers})[:MAX_NUMBERS]),
+                                    tests=joined((before.tests, tally.tests)))
         finding.runs[run] = tally
 
     def command_counts(self) -> Counter[Tuple[str, ...]]:

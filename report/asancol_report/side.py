@@ -39,6 +39,7 @@ NO_NUMBER = (1 << 32) - 1  # of a thread
 FAULTS_AT = THREADS_AT + MAX_THREADS * THREAD.size
 FAULT = struct.Struct("<QQQQQQIIIIIIIIQQQQQII176s32s120s")
 KIND_FIELD = 20  # which of its fields has the kind of a finding
+VARIABLE_MASK, TEST_SHIFT = 0xff, 8  # in one field: what a fault lies beside, and the text of its test
 FOUND = struct.Struct("<QQQ")  # of a finding, in place of the shadow
 SHADOW_ROW, SHADOW_ROWS_BESIDE = 16, 5
 GRANULE = 8
@@ -128,6 +129,7 @@ class Fault(NamedTuple):
     function: int  # an address in its function
     variables: str  # how the compiler describes that frame; of a global that was defined twice, the other definition
     call: str  # the function of the C library that has made the access, or "sys_" and a system call
+    test: str = ""  # that was running
     # Of a finding of the recorder:
     kind: int = FINDING_NONE
     count: int = 0  # type: ignore[assignment]  # how often it came up; of a leak how many blocks are lost
@@ -167,6 +169,7 @@ class Last(NamedTuple):
     access: str = ""  # a word of ACCESSES, if that is known
     is_stack_used_up: bool = False
     thread: int = 0  # as the threads of a fault
+    test: str = ""  # that was running
 
 
 class Side:
@@ -212,16 +215,18 @@ class Side:
         place, address, stack, how = LAST.unpack(text)
         access = next((word for flag, word in ACCESSES.items() if how & flag), "")
         is_known = bool(how & HAS_ADDRESS)
-        return Last(self.calls(place, stack), address if is_known else None, access, bool(how & STACK_USED_UP),
-                    self.beside_threads()[0])
+        thread, test, _ = self.beside_threads()
+        return Last(self.calls(place, stack), address if is_known else None, access, bool(how & STACK_USED_UP), thread,
+                    self.read_text(test))
 
-    def beside_threads(self) -> Tuple[int, str]:
-        """Returns the thread that a signal has met, as the threads of a fault, and the name of the first thread."""
+    def beside_threads(self) -> Tuple[int, int, str]:
+        """Returns the thread that a signal has met and the test, as those of a fault, and the name of the first
+        thread."""
         text = read_at(self.descriptor, BESIDE_THREADS_AT, BESIDE_THREADS.size) if self.is_good else b""
         if len(text) < BESIDE_THREADS.size:
-            return 0, ""
-        last, _, name = BESIDE_THREADS.unpack(text)
-        return last, text_of(name)
+            return 0, 0, ""
+        last, test, name = BESIDE_THREADS.unpack(text)
+        return last, test, text_of(name)
 
     def argv(self) -> List[str]:
         """Returns the command line, as far as it was kept."""
@@ -323,6 +328,7 @@ class Side:
     def fault_of_fields(self, fields: Tuple[Any, ...]) -> Fault:
         _, place, block, block_size, allocated, freed, variable, line = fields[:8]
         start, size, shadow_start, frame, function, variables, kind, shadow, call, name = fields[14:]
+        variable, test = variable & VARIABLE_MASK, variable >> TEST_SHIFT
         if variable > VARIABLE_FORGOTTEN:
             variable = VARIABLE_NONE
         calls = [self.calls(*it) for it in zip((place, allocated, freed), fields[8:11])]
@@ -330,7 +336,7 @@ class Side:
         found = FOUND.unpack_from(shadow) if kind else (0, 0, 0)
         return Fault(calls[0], block, block_size, calls[1], calls[2], variable, line, text_of(name),
                      (access, allocated_by, freed_by), start, size, shadow if shadow_start else b"", shadow_start,
-                     frame, function, self.read_text(variables), text_of(call), kind, *found)
+                     frame, function, self.read_text(variables), text_of(call), self.read_text(test), kind, *found)
 
     def thread(self, number: int) -> Optional[Thread]:
         """Returns a thread by its number in the list, from 1."""

@@ -137,6 +137,8 @@ class Text:
         yield f"{colors.red}=={finding.first.pid}==ERROR: asancol: {printable(title)}{colors.off}{thread}{count}"
         if finding.is_leak:
             yield f"{finding.what} allocated from:"
+        if finding.in_tests:
+            yield f"  {printable(finding.in_tests)}"
         yield from self.stack(finding.stack, finding.top)
         bad = f"0x{finding.bad_byte:x}"
         if finding.where:
@@ -295,6 +297,8 @@ class Text:
                 yield from lines_of(those, lambda it: f"{it.end}{place}, after its reports")
                 continue
             yield from lines_of(those, lambda it: it.end + printable(it.threads.where(it.threads.access)))
+            if crash is not None and crash.in_tests:
+                yield f"  {printable(crash.in_tests)}"
             yield from self.stack(stack, next(iter(own_calls(stack)), None))
             yield from self.threads(those[0].threads)
             named = {id(it): it for it in map(results.crash_of, those) if it} if self.has_suppressions else {}

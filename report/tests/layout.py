@@ -36,6 +36,8 @@ NUMBERS = [
     ("SIDE_ROW", side.SHADOW_ROW),
     ("SIDE_ROWS_BESIDE", side.SHADOW_ROWS_BESIDE),
     ("SIDE_TEXT", side.MAX_TEXT),
+    ("(struct side_fault){.variable = 255}.variable", side.VARIABLE_MASK),
+    ("((uint32_t *)&(struct side_fault){.test = 1})[offsetof(struct side_fault, line) / 4 - 1]", 1 << side.TEST_SHIFT),
     ("SIDE_FAULTS_AT", side.FAULTS_AT),
     ("sizeof(struct side_fault)", side.FAULT.size),
     ("SIDE_FAULTS", side.MAX_FAULTS),
