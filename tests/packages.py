@@ -227,7 +227,7 @@ def package_is_whole(_: str, folder: str) -> None:
         wanted += [f"share/bash-completion/completions/{name}", f"share/zsh/vendor-completions/_{name}"]
         wanted.append(f"share/fish/vendor_completions.d/{name}.fish")
     for name in (*completions.PROGRAMS, "asancol-cc", "asancol-c++", "asancol-fc", "asancol-gcc", "asancol-g++",
-                 "asancol-clang", "asancol-clang++", "asancol-cargo"):
+                 "asancol-clang", "asancol-clang++", "asancol-g++-11", "asancol-clang-19", "asancol-cargo"):
         wanted += [f"bin/{name}", f"share/man/man1/{name}.1.gz"]
     wanted += [f"share/man/man5/asancol-{it}.5.gz" for it in ("trace", "results")]
     found = r"(README|CONTRIBUTING|docs/.+)\.md|examples/.*"

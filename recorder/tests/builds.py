@@ -502,6 +502,7 @@ CALLED = (
 
 # Names that say which compiler is run, whatever the variables say.
 NAMED = ("gcc", "gcc-12", "g++", "clang", "clang-15", "clang++", "aarch64-linux-gnu-gcc")
+NO_COMPILER = "there is no such compiler in PATH: install it, or name another by --asancol-compiler="
 
 
 def check_named(suite, folder, compiler):
@@ -519,7 +520,7 @@ def check_named(suite, folder, compiler):
             expect(said, f"{wanted} -dumpmachine\n", word)
     os.symlink(CC, f"{folder}/bin/asancol-no-such-one")
     said = run(["asancol-no-such-one", "a.c"], folder, **settings).stderr.decode()
-    expect(said, "asancol-cc: error: no-such-one: there is no such compiler\n", "a compiler that is missing")
+    expect(said, f"asancol-no-such-one: error: no-such-one: {NO_COMPILER}\n", "a compiler that is missing")
 
 
 def check_names(suite, folder, compiler):
@@ -536,7 +537,7 @@ def check_names(suite, folder, compiler):
     shutil.copy(CC, f"{folder}/g++")
     expect(run(["./g++", "-dumpmachine"], folder, **settings).stdout, b"C++ -dumpmachine\n", "a copy")
     said = run(["g++", "a.cc"], folder, **{**settings, "ASANCOL_CXX": "no-such-one"}).stderr.decode()
-    expect(said, "asancol-c++: error: no-such-one: there is no such compiler\n", "what it calls itself")
+    expect(said, f"asancol-c++: error: no-such-one: {NO_COMPILER}\n", "what it calls itself")
 
 
 OWN_WRAP = """

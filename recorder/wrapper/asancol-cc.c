@@ -74,7 +74,7 @@ int main(int count, char **argv)
     struct called called = called_as(argv[0], (const char *)getauxval(AT_EXECFN));
     struct job job = {.front = called.front, .arguments = argv + 1};
     struct request *request = &job.request;
-    say_as(job.front->name);
+    say_as(called.name);
     struct own_options own = own_options_take(argv, &called);
     request->is_all = own.is_all;
     request->tests_loops = own.has_loops;

@@ -57,7 +57,7 @@ static const char *program_of(const char *word)
     if (strchr(word, '/') == NULL) {
         const char *found = path_of_program(word, self_path());
         if (found == NULL)
-            fail(word, "there is no such compiler");
+            fail(word, "there is no such compiler in PATH: install it, or name another by --asancol-compiler=");
         return found;
     }
     if (realpath(word, real) != NULL && strcmp(real, self_path()) == 0)

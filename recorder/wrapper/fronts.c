@@ -50,8 +50,10 @@ static bool take_name(const char *path, struct called *called)
     called->front = row_of(name, false);
     if (called->front != NULL)
         return true;
-    if (begins_with(name, own) && name[strlen(own)] != 0)
-        called->compiler = must(strdup(name + strlen(own)));
+    if (begins_with(name, own) && name[strlen(own)] != 0) {
+        called->name = must(strdup(name));
+        called->compiler = called->name + strlen(own);
+    }
     called->front = row_of(name, true);
     return called->front != NULL || called->compiler != NULL;
 }
@@ -86,5 +88,7 @@ struct called called_as(const char *word, const char *path)
     }
     if (called.front == NULL)
         called.front = &fronts[0];
+    if (called.name == NULL)
+        called.name = called.front->name;
     return called;
 }

@@ -15,6 +15,7 @@ struct front {
 /* What the wrapper was called as. */
 struct called {
     const struct front *front;
+    const char *name;     /* with which its lines begin */
     const char *compiler; /* that its name says, as asancol-clang-15; or null */
 };
 
