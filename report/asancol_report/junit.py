@@ -141,9 +141,10 @@ def outcome(case: Case, places: List[Finding], results: Results, root: str) -> T
     return "", f"<system-out>{text_of(beside)}</system-out>" if beside else ""
 
 
-def names_of(cases: List[Case], runs: List[Run]) -> List[str]:
-    """Returns a name for each test case, and no two that are the same. Runs of one command on one machine have their
-    folders in it, as seen from the one that all of them are in. Others, and those in one folder, are numbered."""
+def names_of(cases: List[Case], runs: List[Run], root: str) -> List[str]:
+    """Returns a name for each test case, and no two that are the same. A program below the root has its path from
+    there. Runs of one command on one machine have their folders in it, as seen from the one that all of them are in.
+    Others, and those in one folder, are numbered."""
     same: Dict[str, List[Run]] = {}
     for run in runs:
         same.setdefault(command_line(run.command), []).append(run)
@@ -152,11 +153,11 @@ def names_of(cases: List[Case], runs: List[Run]) -> List[str]:
     for case in cases:
         run = runs[case.run]
         command = command_line(run.command)
-        name = first = (command or "run") + folders[command].get(run.directory, "")
+        name = first = name_of(run.command or ("run",), root) + folders[command].get(run.directory, "")
         if case.test:
             name = first = f"{first}: {case.test}"
         elif not case.is_run:
-            name = first = name_of(case.processes[0], run)
+            name = first = name_of(case.processes[0].command or ("process",), run.directory)
         while name in names:
             names[first] += 1
             name = f"{first} #{names[first]}"
@@ -164,9 +165,9 @@ def names_of(cases: List[Case], runs: List[Run]) -> List[str]:
     return list(names)
 
 
-def name_of(process: Process, run: Run) -> str:
-    program, *others = process.command or ("process",)
-    return command_line([shown_path(program, run.directory), *others])
+def name_of(command: Tuple[str, ...], folder: str) -> str:
+    program, *others = command
+    return command_line([shown_path(program, folder), *others])
 
 
 def folders_of(runs: List[Run]) -> Dict[str, str]:
@@ -217,7 +218,7 @@ def write(results: Results, out: TextIO, options: Options, sources: Sources) -> 
     counts = f'tests="{len(outcomes)}" failures="{failures}" errors="{errors}" time="{seconds:.3f}"'
     out.write(f'<?xml version="1.0" encoding="UTF-8"?>\n<testsuites {counts}>\n')
     out.write(f' <testsuite name="asancol" {counts}{when_and_where(results.runs)}>\n')
-    for name, case, (_, body) in zip(names_of(cases, results.runs), cases, outcomes):
+    for name, case, (_, body) in zip(names_of(cases, results.runs, root), cases, outcomes):
         took = results.runs[case.run].seconds if case.is_run else 0
         words = f'classname="asancol" name="{attribute(name)}" time="{took:.3f}"'
         out.write(f"  <testcase {words}>{body}</testcase>\n")

@@ -300,6 +300,8 @@ def junit_names(folder: str) -> None:
     on_two = [("a", "/home/a/s", check), ("b", "/builds/7/s", check)]
     expect(names(*on_two), ["make check", "make check #2"], "machines")
     expect(names(*on_two, argv=("--no-machines",)), ["make check", "make check #2"], "machines that have no names")
+    tests = [("a", f"{folder}/build", [f"{folder}/build/{name}"]) for name in ("one", "two")]
+    expect(names(*tests), ["build/one", "build/two"], "programs below the current folder")
     odd = [*check, "#2"]
     expect(len(set(names(("a", "/s", check), ("a", "/s", odd), ("a", "/s", check)))), 3, "a name that is like another")
 
