@@ -442,6 +442,15 @@ def check_red(folder: str, prefix: str) -> None:
             row_in_a_run(red, row, around)
         except (Failure, KeyError, ValueError) as error:
             raise Failure(f"{title}: {error!r}") from None
+    check_generator(red)
+
+
+def check_generator(job: Job) -> None:
+    """A program with a bug that the build itself runs stops it, unless it is not checked."""
+    write_text(f"{job.folder}/CMakeLists.txt", f"{job.text('CMakeLists.txt')}add_custom_target(made ALL leak)\n")
+    expect(job.run("cmake --build build-asancol").status != 0, True, "a build that leaks")
+    setting = re.search(r"passes with `(ASANCOL_RUN=0)`", text_of(PAGE))
+    job.must(f"{setting[1] if setting else ''} cmake --build build-asancol")
 
 
 # ---- other projects, and the image
