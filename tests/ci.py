@@ -348,6 +348,8 @@ foreach(name error leak crash fine hang)
     add_executable(${name} ${name}.c)
     add_test(NAME ${name} COMMAND ${name})
 endforeach()
+add_test(NAME slow COMMAND hang)
+set_tests_properties(slow PROPERTIES TIMEOUT 1)
 add_custom_target(plain ALL cc ${CMAKE_SOURCE_DIR}/fine.c -o plain)
 add_test(NAME plain COMMAND "./plain")
 add_test(NAME expected COMMAND error)
@@ -370,7 +372,7 @@ class Row(NamedTuple):
 ROWS = [
     Row("error|leak"),
     Row("expected|ignored"),
-    Row("crash"),
+    Row("crash|slow"),
     Row("unfinished"),
     Row("fine", path="without"),
     Row("plain"),
