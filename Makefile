@@ -169,11 +169,12 @@ bench-run: asancol recorder run
 
 # The test suites of real programs under asancol-run: each passes as without it, and has no report. The sources
 # come from Debian by `apt-get source` the first time; it takes some minutes. SUITES="nginx tmux" runs those alone, and
-# SUITES=long those that take longer.
+# SUITES=long those that take longer. Without it the commands of docs/FOUND.md are run, too.
 SUITES :=
 
 check-real: asancol recorder run
 	recorder/tests/real.py ./asancol $(SUITES)
+	$(if $(SUITES),,recorder/tests/found.py ./asancol)
 
 # AddressSanitizer's own tests, of compiler-rt and of GCC, recorded: each has the report that it has with the real
 # runtime. The sources come as for check-real. Allow it an hour, and more beside other work. With TARGET=aarch64 it runs
