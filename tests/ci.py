@@ -245,7 +245,8 @@ def check_presets(job: Job) -> None:
 
 
 def check_cdash(job: Job) -> None:
-    """The table of defects has each class."""
+    """The table of defects has each class, also in a project that does not think of CDash."""
+    job.edit("CMakeLists.txt", "include(CTest)", "enable_testing()")
     job.build()
     ran = job.run(blocks()["Build systems: sh 2"])
     expect_in(ran.out, "heap-buffer-overflow - 1\n", "heap-use-after-free - 1\n")
