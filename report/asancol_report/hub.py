@@ -83,7 +83,7 @@ class Hub:
             while True:
                 text, descriptors = receive(packets)
                 try:
-                    if not text or self.take(text, descriptors) == "end":
+                    if not text or self.take(text, list(descriptors)) == "end":
                         break
                 finally:
                     for each in descriptors:
