@@ -5,6 +5,7 @@ A block is named by the section that it is in, its language, and its number amon
 """
 
 import glob
+import importlib
 import json
 import os
 import re
@@ -14,7 +15,7 @@ import xml.etree.ElementTree
 from typing import Callable, Dict, List, NamedTuple, Tuple
 
 from testing import TOP, Failure, Later, LeftOut, Ran, Suite, expect, expect_in, write_text
-from testing.programs import call, environment, ran_of
+from testing.programs import PATIENCE, call, environment, ran_of
 
 PAGE = f"{TOP}/docs/CI.md"
 PROJECT = f"{TOP}/examples/farms/project"
@@ -56,6 +57,7 @@ class Job:
         shutil.copytree(source, self.folder, symlinks=True)
         path = f"{prefix}/bin:{os.environ.get('PATH', os.defpath)}"
         self.settings = {"PATH": path, "CI": "true", "HOME": f"{folder}/home", "ASANCOL_RUN": ""}
+        self.patience = PATIENCE
         os.makedirs(self.settings["HOME"])
         if not shutil.which("pytest") and shutil.which("pytest-3"):
             os.makedirs(f"{folder}/bin")
@@ -67,7 +69,7 @@ class Job:
         compilers = [it for it in ("CC", "CXX", "CFLAGS", "CXXFLAGS") if it not in settings]
         argv = [*(shell or ("sh",)), "-c", script]
         return ran_of(call(argv, cwd=self.folder, env=environment(*compilers, **{**self.settings, **settings}),
-                           stdin=subprocess.DEVNULL, capture_output=True))
+                           stdin=subprocess.DEVNULL, capture_output=True, timeout=self.patience))
 
     def must(self, script: str, *shell: str, **settings: str) -> Ran:
         ran = self.run(script, *shell, **settings)
@@ -157,10 +159,9 @@ def steps_of_github(workflow: str) -> List[Step]:
 def check_is_yaml(text: str, wanted: List[str], *keys: str) -> None:
     """If a reader of YAML is here, it reads the same commands."""
     try:
-        import yaml  # type: ignore[import-untyped,unused-ignore]
+        at = importlib.import_module("yaml").safe_load(text)
     except ImportError:
         return
-    at = yaml.safe_load(text)
     for key in keys:
         at = at[key]
     expect([it["run"] if isinstance(it, dict) else it for it in at if isinstance(it, str) or "run" in it],
@@ -472,7 +473,7 @@ def check_cjson(job: Job) -> None:
 
 
 def check_cjson_of_debian(suite: Suite, folder: str, prefix: str) -> None:
-    import real
+    real = importlib.import_module("real")
     program = [it for it in real.PROGRAMS if it.name == "cjson"]
     try:
         real.fetch(program)
@@ -486,6 +487,7 @@ def check_docker(suite: Suite, folder: str, prefix: str) -> None:
     if subprocess.run(["make", "-q", "asancol"], cwd=TOP, check=False, stderr=subprocess.DEVNULL).returncode:
         raise LeftOut("there is no ./asancol that is up to date")
     job = Job(folder, prefix)
+    job.patience = 800
     os.makedirs(f"{job.folder}/ci")
     write_text(f"{job.folder}/Dockerfile", blocks()["How the job gets asancol: dockerfile 1"])
     buildah = f"buildah --root {folder}/images --runroot {folder}/now --storage-driver vfs"
