@@ -35,6 +35,7 @@
 #include "options.h"
 #include "processes.h"
 #include "report.h"
+#include "rules.h"
 #include "say.h"
 #include "segments.h"
 #include "serving.h"
@@ -357,6 +358,8 @@ static void need_descriptors(bool is_served)
 static pid_t start(const struct options *options, int *signals)
 {
     int status = 0;
+    if (options->served == 0 && !rules_are_good(options))
+        exit(OWN_FAILURE);
     say_open(options->log);
     if (options->served != 0)
         serving_begin((pid_t)options->served, options->sockets);

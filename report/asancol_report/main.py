@@ -444,6 +444,8 @@ def main(argv: List[str], beside: str) -> int:
         elif options.value("--doctor-of"):
             from .doctor import look
             return look(options.value("--doctor-of"), beside)
+        elif options.switches["--rules-alone"]:
+            Report(options, beside).read_rules()
         else:
             return Report(options, beside).run()
         sys.stdout.flush()

@@ -113,6 +113,7 @@ SWITCHES = (
     "--trace",
     "--run",
     "--log-alone",
+    "--rules-alone",
     "--help",
     "--version",
 )

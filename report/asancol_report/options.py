@@ -105,7 +105,7 @@ def look_over(options: Options) -> None:
         raise Refused("a trace on standard input has no side file: name a file")
     if options.files.count("-") > 1:
         raise Refused("standard input can be read once")
-    if not options.files and not switches["--run"]:
+    if not options.files and not switches["--run"] and not switches["--rules-alone"]:
         raise Refused("no file was named; --help says more")
     if not switches["--run"]:  # there nothing may be lost, and asancol-run has looked at the names
         look_for_losses(options)

@@ -29,6 +29,14 @@ FORMS = ("CLASS:PATTERN, *:PATTERN, fun:PATTERN, src:PATTERN, obj:PATTERN, calle
          "at:CLASS:FUNCTION@FILE")
 
 
+def unknown(kind: str, words: Iterable[str]) -> str:
+    """Returns the message about a word that is no class, nor another of these."""
+    import difflib
+
+    near = difflib.get_close_matches(kind, list(words), 1)
+    return f"there is no class {printable(kind)}; {f'did you mean {near[0]}?' if near else f'a line is {FORMS}'}"
+
+
 class Rule:
     """A line of a file of suppressions: a class or the examined property, and a pattern. It matches if any frame
     does."""
@@ -38,8 +46,10 @@ class Rule:
         kind, colon, text = line.partition(":")
         self.kind = CLASS_NAMES.get(kind, kind)
         kinds = (*KNOWN_CLASSES, ANY_CLASS, FUNCTION, SOURCE, OBJECT, *OF_CALLS)
-        if not colon or self.kind not in kinds:
+        if not colon:
             raise ValueError(f"not {FORMS}")
+        if self.kind not in kinds:
+            raise ValueError(unknown(self.kind, kinds))
         if not text:
             raise ValueError("the pattern is empty")
         self.search = pattern(text).search
@@ -77,7 +87,7 @@ class PlaceRule:
         self.line = line
         self.class_name, _, text = line[len(PLACE) + 1:].partition(":")
         if self.class_name not in (*KNOWN_CLASSES, ANY_CLASS):
-            raise ValueError(f"not {FORMS}: there is no class {self.class_name}")
+            raise ValueError(unknown(self.class_name, KNOWN_CLASSES))
         self.patterns = [self.read(frame.strip()) for frame in text.split(";")]
         self.is_used = False
 

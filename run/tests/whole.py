@@ -261,8 +261,11 @@ def check_suppressed(suite: Suite, folder: str) -> None:
     expect_ran(run_real(suite, "--suppressions", f"{folder}/known", "--", "sh", "-c", line), 5, "1 suppressed")
     expect_ran(run_real(suite, "--suppressions", f"{folder}/known", "--", suite.program, "child"), 99, FREED)
     with open(f"{folder}/wrong", "w", encoding="utf-8") as file:
-        file.write("no such form\n")
-    expect_ran(run_real(suite, "--suppressions", f"{folder}/wrong", "--", suite.program, "past"), 99, "wrong:1: ", PAST)
+        file.write("# a comment\nheap-buffer-overflw:main\n")
+    ran = run_real(suite, "--suppressions", f"{folder}/wrong", "--", "touch", f"{folder}/ran")
+    expect_ran(ran, 125, "wrong:2: heap-buffer-overflw:main: there is no class heap-buffer-overflw; did you mean "
+               "heap-buffer-overflow?\n")
+    expect(os.path.exists(f"{folder}/ran"), False, "the command runs")
 
 
 def check_baseline(suite: Suite, folder: str) -> None:
