@@ -8,6 +8,7 @@
 #define _GNU_SOURCE
 #include <errno.h>
 #include <inttypes.h>
+#include <signal.h>
 #include <stdio.h>
 #include <stdlib.h>
 #include <string.h>
@@ -17,7 +18,6 @@
 #include <unistd.h>
 
 #include "checkers.h"
-#include "common/crash.h"
 #include "common/standard.h"
 #include "children.h"
 #include "loop.h"
@@ -191,9 +191,11 @@ static struct strings troubles_of(const struct run_end *end, const char *command
 }
 
 /* What the reader is told besides. */
-static struct strings notes_of(const struct options *options)
+static struct strings notes_of(const struct options *options, int status)
 {
     struct strings lines = lowered_lines(options, true);
+    if (signal_of(status) == SIGINT)
+        strings_add(&lines, "the command was interrupted by SIGINT, so later errors may be missing");
     const char *runtime = unchecked_sanitizer();
     char *text;
     if (runtime != NULL) {
@@ -437,7 +439,7 @@ int main(int count, char **argv)
         .is_running = collected.is_running,
         .has_timed_out = collected.has_timed_out,
         .lost = nested.lost,
-        .notes = notes_of(&options),
+        .notes = notes_of(&options, collected.status),
     };
     end.troubles = troubles_of(&end, options.command[0]);
     bool is_incomplete = is_cut_short(&sum, &end);

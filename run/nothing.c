@@ -86,8 +86,7 @@ static const char *sanitized_program(void)
     return NULL;
 }
 
-/* A shell ends with the status of its last program, from which the signal follows that has ended that. */
-static int signal_of(int status)
+int signal_of(int status)
 {
     return WIFSIGNALED(status) ? WTERMSIG(status) : WIFEXITED(status) ? WEXITSTATUS(status) - 128 : 0;
 }

@@ -232,7 +232,8 @@ def at_terminal(suite: Suite, argv: List[str], typed: bytes, after: float, **set
 def check_interrupt_at_terminal(suite: Suite, folder: str) -> None:
     """Ctrl-C ends the command, and not its check."""
     ran = at_terminal(suite, [RUN, "-v", "--", suite.program, "sleeps", "30"], b"\x03", 0.7)
-    expect_ran(ran, -signal.SIGINT, "ended by SIGINT", "all complete")
+    expect_ran(ran, -signal.SIGINT, "ended by SIGINT", "all complete",
+               "the command was interrupted by SIGINT, so later errors may be missing")
 
 
 def check_interrupt_is_sent_once(suite: Suite, folder: str) -> None:

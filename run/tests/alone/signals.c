@@ -453,14 +453,14 @@ SITUATION(interrupted_or_restarted)
     for (int i = 0; i < 2; i++) {
         struct sigaction action = {.sa_handler = note, .sa_flags = i ? SA_RESTART : 0};
         sigaction(SIGALRM, &action, NULL);
-        struct itimerval soon = {.it_value = {0, 3000}};
+        struct itimerval soon = {.it_value = {0, 60000}}; /* each call has begun by then, beside other work too */
         int ready[2];
         TELL(pipe(ready));
         pid_t child = fork();
         if (child == 0) {
             if (write(ready[1], "x", 1) != 1)
                 _exit(1);
-            usleep(i ? 20000 : 10000000);
+            usleep(i ? 300000 : 10000000);
             write(ends[1], "x", 1) == 1 ? _exit(0) : _exit(1);
         }
         TELL(read(ready[0], &byte, 1));
