@@ -301,6 +301,10 @@ def check_results(job: Job) -> None:
     expect_places(ran.out)
     job.expect_page()
     job.expect_junit()
+    ran = job.run("asancol-report --format=github --markdown summary.md --sarif asancol.sarif results")
+    expect((ran.status, annotations(ran.out)), (1, places()), ran.out)
+    expect_places(job.text("summary.md"))
+    expect(len(json.loads(job.text("asancol.sarif"))["runs"][0]["results"]), 2, "SARIF")
 
 
 def check_known(job: Job) -> None:
