@@ -34,7 +34,8 @@ enum { MARK_SHORT_PROGRAM = 40 };
 
    A process that goes on asks for one report: in a second line the number of its event, or 0 and the number of a
    finding in the list of faults, and the file to which it prints the words. It takes them up to the end of the
-   answer, and sends a byte back once they are printed.
+   answer, and sends a byte back once they are printed. A process that halts asks so, too, with zeros for the file: the
+   answer is a byte if the report does not count, and nothing else, and the process goes on.
 
    A program that started its own run tells with which status it ends, as of waitpid, in a second line. Once the verdict
    is printed it gets the status of the run in digits, or another text if its own applies. It connects at its start,

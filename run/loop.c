@@ -631,8 +631,7 @@ struct collected loop_run(const struct options *options, pid_t command, int sign
     run.timeout_at = options->timeout > 0 ? run.started + options->timeout : 0;
     hold_processes();
     modules_allow(run.descriptors / 4);
-    if (options->live == LIVE_ACCESS)
-        showing_begin(run.descriptors < ENOUGH_TO_SHOW ? 0 : run.descriptors / HELD_BY_SHOWN);
+    showing_begin(run.descriptors < ENOUGH_TO_SHOW ? 0 : run.descriptors / HELD_BY_SHOWN);
     take_accepted();
     while (!is_over())
         wait_once(do_due());

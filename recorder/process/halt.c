@@ -21,6 +21,7 @@
 #include "process/signals.h"
 #include "process/preload_wait.h"
 #include "process/root.h"
+#include "process/showing.h"
 #include "stream/record.h"
 #include "stream/sending.h"
 #include "stream/side.h"
@@ -85,9 +86,36 @@ static int ask_for_words(bool is_left, int *patience_ms)
     return ask_begin(recorder_hub(), ASK_REPORT, true, patience_ms);
 }
 
-/* The thread that ends the process, after the number of that process; 0: none. And whether it waits for its words. */
+/* The thread that ends the process, after the number of that process; 0: none. And how many threads wait for the run,
+   the same. */
 static _Atomic uint64_t halting;
-static _Atomic bool is_waiting;
+static _Atomic uint64_t waiting;
+static _Thread_local bool is_waiting;
+
+static uint64_t this_thread(void)
+{
+    return (uint64_t)self_process() << 32 | (uint32_t)system_gettid();
+}
+
+/* In a forked child the number is that of its parent. */
+static uint32_t others_waiting(void)
+{
+    uint64_t seen = atomic_load(&waiting);
+    bool is_ours = seen >> 32 == (uint64_t)self_process();
+    return is_ours ? (uint32_t)seen - is_waiting : 0;
+}
+
+void halt_wait(bool begins)
+{
+    uint64_t own = (uint64_t)self_process() << 32, before = atomic_load(&waiting), after;
+    if (is_waiting == begins)
+        return;
+    do {
+        uint64_t count = before >> 32 == own >> 32 ? (uint32_t)before : 0;
+        after = own | (begins ? count + 1 : count - (count > 0));
+    } while (!atomic_compare_exchange_weak(&waiting, &before, after));
+    is_waiting = begins;
+}
 
 /* Not for ever: a handler may have jumped out of the wait. */
 void halt_is_waited_for(void)
@@ -95,12 +123,10 @@ void halt_is_waited_for(void)
     enum { SPAN_MS = 10 };
     const struct timespec span = {.tv_nsec = SPAN_MS * 1000 * 1000};
     /* A filter of the program's may end it at a system call: most exits make none here. */
-    if (!atomic_load(&is_waiting))
+    if (atomic_load(&waiting) == 0)
         return;
-    uint64_t own = (uint64_t)self_process() << 32 | (uint32_t)system_gettid();
-    for (int left = recorder_settings()->patience_ms; left > 0 && atomic_load(&is_waiting); left -= SPAN_MS) {
-        uint64_t other = atomic_load(&halting);
-        if (other == own || other >> 32 != own >> 32 || !recorder_is_own_process())
+    for (int left = recorder_settings()->patience_ms; left > 0 && others_waiting() > 0; left -= SPAN_MS) {
+        if (atomic_load(&halting) == this_thread() || !recorder_is_own_process())
             break;
         system_nanosleep(&span);
     }
@@ -109,26 +135,29 @@ void halt_is_waited_for(void)
 /* Prints the words of the run. The program may not exit meanwhile: its status is that of the halt. */
 static bool print_words(int words, int patience_ms)
 {
-    atomic_store(&is_waiting, true);
+    halt_wait(true);
     bool came = halt_report_of_run(words, patience_ms);
-    atomic_store(&is_waiting, false);
+    halt_wait(false);
     return came;
 }
 
 /* Another thread that is here already ends the process: this one waits for that, as it might end the process first, and
-   well. But not for ever: a handler of the program may have taken that thread back from SIGABRT. */
+   well. But not for ever: a handler of the program may have taken that thread back from SIGABRT. If that thread goes
+   on, this one is the next. */
 static bool is_first_to_halt(void)
 {
     enum { SPANS = 500 };
     const struct timespec span = {.tv_nsec = 10 * 1000 * 1000};
-    uint64_t process = (uint64_t)self_process() << 32, own = process | (uint32_t)system_gettid();
-    uint64_t before = atomic_load(&halting);
-    while (before >> 32 != process >> 32)
-        if (atomic_compare_exchange_weak(&halting, &before, own))
-            return true;
+    uint64_t own = this_thread(), before = atomic_load(&halting);
     for (unsigned i = 0; before != own && i < SPANS; i++) {
+        while (before >> 32 != own >> 32)
+            if (atomic_compare_exchange_weak(&halting, &before, own))
+                return true;
+        if (before == own)
+            break;
         halt_is_waited_for();
         system_nanosleep(&span);
+        before = atomic_load(&halting);
     }
     if (before != own)
         atomic_store(&halt_is_on, false);
@@ -156,10 +185,21 @@ void halt_at(enum code code, unsigned width, uint64_t address, uintptr_t caller,
     /* In a child of vfork all memory is its parent's, which has not halted. */
     if (!recorder_is_own_process())
         end_process();
-    if (!is_first_to_halt())
+    /* What it records itself comes here again. */
+    if (atomic_load(&halting) == this_thread() || show_says_uncounted(caller))
         return;
-    if (recorder_begins_late() ? recorder_begin_late() : recorder_begin_for_words())
+    bool is_late = recorder_begins_late();
+    if (!is_first_to_halt()) {
+        halt_wait(false);
+        return;
+    }
+    /* If another thread has begun meanwhile, and goes on, this access was not recorded either. */
+    if (is_late ? !recorder_begins_late() || recorder_begin_late() : recorder_begin_for_words())
         record(code, width, address, caller, whole);
+    if (show_says_uncounted(caller)) {
+        atomic_store(&halting, 0);
+        return;
+    }
     bool is_left = is_left_to_run();
     int patience_ms, words = ask_for_words(is_left, &patience_ms);
     side_note_halted(is_left ? HALTED_UNSAID : words >= 0 ? HALTED_AND_ASKS : HALTED_AND_SAID);

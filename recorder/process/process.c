@@ -235,6 +235,7 @@ bool recorder_begin_late(void)
     undisturbed_begin(&before);
     heap_lock();
     bool has_begun = begin(UINT64_MAX);
+    process.begins_late &= !has_begun;
     heap_unlock();
     undisturbed_end(&before);
     return has_begun;

@@ -1,5 +1,5 @@
 /* `places` has the call sites that were shown, as a hash table; `showing` is the thread that shows one. A run that does
-   not answer is asked no more. */
+   not answer is asked no more. In a process that halts `places` has the faults that do not count instead. */
 #define _GNU_SOURCE
 #include "process/showing.h"
 
@@ -19,13 +19,16 @@
 #include "environment/asking.h"
 #include "environment/hub_names.h"
 #include "environment/settings.h"
+#include "process/halt.h"
 #include "stacks/unwinding.h"
+#include "stream/faults.h"
 #include "stream/sending.h"
 #include "stream/side.h"
 #include "stream/state.h"
 
-/* How long a report is waited for; the first one starts asancol-report. And how many waits may fail in a row. */
-enum { PATIENCE_MS = 300, FIRST_PATIENCE_MS = 2000, MOST_FAILURES = 3 };
+/* How long a report is waited for; the first one starts asancol-report. And how many waits may fail in a row. A process
+   that halts ends at the first failure, so it waits longer. */
+enum { PATIENCE_MS = 300, FIRST_PATIENCE_MS = 2000, MOST_FAILURES = 3, HALT_PATIENCE_MS = 10000 };
 /* The most that are shown of a process; the text of a run has no more either. */
 enum { MOST_SHOWN = 50 };
 
@@ -36,10 +39,15 @@ static _Atomic unsigned shown, failures;
 
 static const struct settings *settings; /* written with the flag, before there is another thread */
 
+static bool halts(void)
+{
+    return settings->halt != HALT_NEVER;
+}
+
 void show_begin(const struct settings *of_process)
 {
     settings = of_process;
-    bool is_wanted = settings->is_live && is_hub() && settings->halt == HALT_NEVER && asan_options_log()[0] == 0;
+    bool is_wanted = is_hub() && (halts() || (settings->is_live && asan_options_log()[0] == 0));
     for (size_t i = 0; is_wanted && i < PLACES; i++)
         atomic_store_explicit(&places[i], 0, memory_order_relaxed);
     atomic_store(&showing, 0);
@@ -159,10 +167,11 @@ static bool print_words(int connection, int64_t until)
     return true;
 }
 
-/* "show", and in a second line the event, the finding, and the file. */
+/* "show", and in a second line the event, the finding, and the file; or of a process that halts zeros. */
 static void put_request(struct joined *request, const struct told *told, const struct stat *file)
 {
-    const uint64_t numbers[] = {told->event, told->entry, file->st_dev, file->st_ino};
+    const uint64_t numbers[] = {told->event, told->entry, file != NULL ? file->st_dev : 0,
+                                file != NULL ? file->st_ino : 0};
     joined_add(request, ASK_SHOW "\n", sizeof ASK_SHOW + 1);
     for (size_t i = 0; i < sizeof numbers / sizeof *numbers; i++) {
         char digits[DIGITS_ROOM];
@@ -171,17 +180,22 @@ static void put_request(struct joined *request, const struct told *told, const s
     }
 }
 
-/* Asks for the words, and prints them. False: that has failed. */
-static bool show(const struct told *told, const struct stat *file, int64_t until)
+/* Sends the question, and all that the answer needs. Answers the connection, or a number below zero. */
+static int ask_about(const struct told *told, const struct stat *file, int *patience_ms)
 {
     char text[ASK_MOST];
     struct joined request = {.text = text, .room = sizeof text};
-    int patience_ms = (int)(until - clock_ms());
     put_request(&request, told, file);
-    if (patience_ms <= 0 || !stream_send_events(told->event, &patience_ms))
-        return false;
+    if (*patience_ms <= 0 || !stream_send_events(told->event, patience_ms))
+        return -1;
     const char *hub = settings->hub != NULL ? settings->hub : settings->passed_over;
-    int connection = ask_begin(hub, text, true, &patience_ms);
+    return ask_begin(hub, text, true, patience_ms);
+}
+
+/* Asks for the words, and prints them. False: that has failed. */
+static bool show(const struct told *told, const struct stat *file, int64_t until)
+{
+    int patience_ms = (int)(until - clock_ms()), connection = ask_about(told, file, &patience_ms);
     if (connection < 0)
         return false;
     bool is_done = print_words(connection, until);
@@ -202,17 +216,69 @@ static bool take_turn(int64_t until)
     }
 }
 
+static bool is_known(uint64_t key)
+{
+    size_t at = find(key);
+    return at < PLACES && atomic_load_explicit(&places[at], memory_order_relaxed) == key;
+}
+
+/* Where this thread has met the last fault that does not count, until it was asked for; 0: it has met none. */
+static _Thread_local uintptr_t uncounted;
+
+/* The answer has a byte if the run says so. Signals come through while it is waited for. */
+static bool does_not_count(const struct told *told)
+{
+    char answer;
+    struct disturbance before;
+    int patience_ms = HALT_PATIENCE_MS;
+    undisturbed_begin(&before);
+    int connection = ask_about(told, NULL, &patience_ms);
+    undisturbed_end(&before);
+    bool is_answered = connection >= 0 && ask_read(connection, &answer, 1, &patience_ms) == 1;
+    if (connection >= 0)
+        system_close(connection);
+    return is_answered;
+}
+
+/* A process that halts asks whether it may go on. */
+static void judge(const struct told *told)
+{
+    int error = errno;
+    uint64_t key = told->event != 0 ? fault_key(told->event) : 0;
+    uncounted = 0;
+    if (key == 0 || !recorder_is_own_process())
+        return;
+    bool may_go_on = is_known(key);
+    if (!may_go_on) {
+        halt_wait(true);
+        may_go_on = does_not_count(told);
+        halt_wait(!may_go_on);
+    }
+    if (may_go_on)
+        add(key);
+    uncounted = may_go_on ? told->caller : 0;
+    errno = error;
+}
+
+bool show_says_uncounted(uintptr_t caller)
+{
+    bool is_so = uncounted != 0 && uncounted == caller;
+    uncounted = 0;
+    return is_so;
+}
+
 void show_report(const struct told *told)
 {
     struct stat file;
     struct disturbance before;
     uint64_t key = key_of(told);
+    if (halts()) {
+        judge(told);
+        return;
+    }
     if (told->event == 0 && told->entry == 0)
         return;
-    size_t at = find(key);
-    if (at == PLACES || atomic_load_explicit(&places[at], memory_order_relaxed) == key)
-        return;
-    if (settings->halt != HALT_NEVER || !recorder_is_own_process() || !add(key))
+    if (is_known(key) || !recorder_is_own_process() || !add(key))
         return;
     int error = errno;
     int64_t until = clock_ms() + (atomic_load(&shown) == 0 ? FIRST_PATIENCE_MS : PATIENCE_MS);

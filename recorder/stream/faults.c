@@ -187,6 +187,16 @@ void fault_note(unsigned window, uint32_t entry, uint64_t event)
     atomic_store_explicit((_Atomic uint32_t *)(list_bytes(list) + offset), entry, memory_order_release);
 }
 
+uint64_t fault_key(uint64_t event)
+{
+    const struct list *list = list_newest();
+    uint64_t offset = SIDE_INDEX + (event - 1) * SIDE_INDEX_ENTRY;
+    if (!side_is_there() || event > EVENT_LIMIT || !list_is_backed(list, offset, SIDE_INDEX_ENTRY))
+        return 0;
+    uint32_t entry = atomic_load((const _Atomic uint32_t *)(list_bytes(list) + offset)) & ~SIDE_IS_PIECE;
+    return entry != 0 ? (uint64_t)atomic_load(&list->number) << 32 | entry : 0;
+}
+
 void fault_note_last(call_site last, uint64_t address, uint32_t how)
 {
     if (!side_is_there())

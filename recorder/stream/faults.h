@@ -5,9 +5,9 @@
    Called: faults_begin by opening.c and faults_are_cut by keeping.c, in any thread, also in a handler, with the
    stream's lock, or before there is a stream (opening.h); fault_begin and fault_end by watched.c and findings.c,
    fault_of and fault_note by watched.c, in the thread of the bad access or free, also in a handler, with or without the
-   allocator's lock; fault_note_last by process/signals.c, in a handler. All but the first two take no lock, only
-   atomics; but a side file may have to get room on the disk, and then side_back takes the stream's for a moment.
-   Nothing is allocated. */
+   allocator's lock; fault_key there by process/showing.c, without; fault_note_last by process/signals.c, in a handler.
+   All but the first two take no lock, only atomics; but a side file may have to get room on the disk, and then
+   side_back takes the stream's for a moment. Nothing is allocated. */
 #ifndef ASANCOL_FAULTS_H
 #define ASANCOL_FAULTS_H
 
@@ -29,6 +29,8 @@ void fault_end(unsigned window);
    the fault that the first of them has there. It is found before its event has its place in the stream, for which other
    threads may wait. */
 uint32_t fault_of(unsigned window, struct access *access, unsigned width, uint64_t address);
+/* What tells the fault of an event of the newest window from others; 0: it has none. */
+uint64_t fault_key(uint64_t event);
 /* Notes where a signal has met the process, the address that could not be accessed, and enum side_how. */
 void fault_note_last(call_site last, uint64_t address, uint32_t how);
 /* Writes that to the index. */

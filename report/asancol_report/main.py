@@ -34,6 +34,9 @@ if TYPE_CHECKING:
 # Forms of the text.
 OWN, ASAN, GCC, GITHUB = "asancol", "asan", "gcc", "github"
 
+# What a process that halts asks for, and the answer if the report does not count.
+NO_FILE, UNCOUNTED = "0:0", "-"
+
 Writer = Callable[[Results, TextIO, Options, Sources], None]
 
 
@@ -263,7 +266,12 @@ class Report:
         self.flush()
 
     def show(self, finding: Finding, file: str, connection: int) -> None:
-        """Gives a process that goes on its report, which it prints to this file."""
+        """Gives a process that goes on its report, which it prints to this file; and tells one that halts, which has
+        none, whether it may go on."""
+        if file == NO_FILE:
+            from .hub import answer
+            answer(connection, UNCOUNTED if not self.counts(finding) else "")
+            return
         is_text = self.options.has_text and self.options.value("--format") in (OWN, ASAN)
         if not is_text or self.is_log_alone or not self.counts(finding):
             return

@@ -256,10 +256,61 @@ def check_halts(suite: Suite, folder: str) -> None:
                     ASANCOL_REPORT="/proc/none/report")
     expect_not_in(read(f"{folder}/e"), "store_past")
     expect(read(f"{folder}/e").count(HALTED), 1, "the process's own text")
-    write_text(f"{folder}/known", "at:heap-buffer-overflow:store_past\n")
-    for settings, status in ((halts, 1), ({"ASANCOL_HALT": "1", "ASANCOL_REPORT": REPORT}, -signal.SIGABRT)):
-        ran = suite.run("--suppressions", f"{folder}/known", "--", *past.split(), **settings)
-        expect(texts(ran, status), (0, 0), ran.err)
+
+
+KNOWN_BUGS = """
+#include <pthread.h>
+#include <stdio.h>
+#include <stdlib.h>
+__attribute__((noinline)) static void known_loop(volatile char *block) { for (int i = 0; i < 1000; i++) block[8] = 1; }
+__attribute__((noinline)) static void known_free(char *block) { free(block); free(block); }
+static void *run(void *block) { known_loop(block); return NULL; }
+int main(int argc, char **argv)
+{
+    pthread_t threads[4];
+    char *block = malloc(8);
+    for (int i = 0; i < 4; i++) pthread_create(&threads[i], NULL, run, block);
+    for (int i = 0; i < 4; i++) pthread_join(threads[i], NULL);
+    known_free(malloc(3));
+    fprintf(stderr, "it goes on\\n");
+    if (argc > 1) block[9] = 1;
+    fprintf(stderr, "it ends %s\\n", argv[0]);
+    free(block);
+}
+"""
+
+
+def check_suppressed_halt(suite: Suite, folder: str, compiler: str) -> None:
+    """A report that does not count ends no process, whoever says so, and the next one that counts does."""
+    program, known, result = make(folder, compiler, KNOWN_BUGS, "-pthread"), f"{folder}/known", f"{folder}/r.jsonl"
+    write_text(known, "*:known_*\n")
+    expect_ran(suite.run("--json", result, "--", program, ASANCOL_REPORT=REPORT), 99)
+    for rule in (f"--suppressions={known}", f"--baseline={result}"):
+        for settings in ({"ASAN_OPTIONS": "halt_on_error=1"}, {"ASAN_OPTIONS": "abort_on_error=1"},
+                         {"ASANCOL_HALT": "2"}):
+            both = {**settings, "ASANCOL_REPORT": REPORT}
+            ran = suite.run(rule, "--", program, **both)
+            expect_ran(ran, 0, "it goes on\n", "it ends", "asancol: no reports, ", absent=["ERROR"])
+            ran = suite.run(rule, "--", program, "bug", **both)
+            expect_in(ran.err, "it goes on\n=====", HALTED, " in main ", "asancol: 1 report at 1 place")
+            expect_not_in(ran.err, "it ends")
+            expect(ran.status != 0, True, "the status of a halt")
+    own = {"ASANCOL_RUN": RUN, "ASANCOL_REPORT": REPORT, "ASANCOL_RUN_OPTIONS": f"--suppressions={known}",
+           "ASANCOL_HALT": "1"}
+    expect_ran(suite.run_argv([program], **own), 0, "it ends", absent=["ERROR"])
+    expect_ran(suite.run_argv([program, "bug"], **own), 99, "it goes on\n=====", HALTED, absent=["it ends"])
+    own.update(ASAN_OPTIONS=f"suppressions={known}:halt_on_error=1", ASANCOL_RUN_OPTIONS="")
+    expect_ran(suite.run_argv([program], **own), 0, "it ends", absent=["ERROR"])
+
+
+def check_unanswered_halt(suite: Suite, folder: str) -> None:
+    """Nobody can say whether the report counts: the process ends."""
+    program = make(folder, compilers_there()[0], KNOWN_BUGS, "-pthread")
+    write_text(f"{folder}/known", "*:known_*\n")
+    ran = suite.run("--suppressions", f"{folder}/known", "--", program, ASAN_OPTIONS="halt_on_error=1",
+                    ASANCOL_REPORT="/proc/none/report")
+    expect_in(ran.err, HALTED)
+    expect_not_in(ran.err, "it goes on")
 
 
 ENDING = """
@@ -529,6 +580,9 @@ def tests(suite: Suite) -> None:
         ("relative suppressions", check_relative_rules), ("fates", check_fates), ("turned off", check_turned_off),
     ):
         suite.test(f"asan: {name}", run)
+    suite.test("asan: nobody suppresses a halt", check_unanswered_halt)
+    for compiler in compilers_there():
+        suite.test(f"{compiler} asan: a suppressed halt", check_suppressed_halt, compiler)
     if os.path.isdir(SOURCES):
         suite.test("asan: listed options", check_listed_options)
     else:
