@@ -252,6 +252,12 @@ class Finding:
         return own_frames(self.stack)
 
     @property
+    def rule_stack(self) -> Stack:
+        """The frames that a suppression can name: of a leak with all callers, since they may share a function that
+        allocates for them."""
+        return self.stack[first_own_of(self.stack):] if self.is_leak else self.own_stack
+
+    @property
     def top(self) -> Frame:
         """The frame that a reader wants to see."""
         return next(iter(self.own_stack), Frame())
@@ -398,9 +404,14 @@ def first_own(places: Iterable[Tuple[str, int, str, bool]]) -> Tuple[int, int]:
     return found.get(False) or found.get(True) or (0, 0)
 
 
+def first_own_of(stack: Stack) -> int:
+    """Returns which frame stands for the place."""
+    return first_own((frame.file, frame.line, frame.module, frame.is_bare) for frame in stack)[0]
+
+
 def own_frames(stack: Stack) -> Stack:
     """Returns the frame that stands for the place, and those that it was inlined into."""
-    first = first_own((frame.file, frame.line, frame.module, frame.is_bare) for frame in stack)[0]
+    first = first_own_of(stack)
     last = next((at for at in range(first, len(stack)) if not stack[at].is_inlined), first)
     return stack[first:last + 1]
 

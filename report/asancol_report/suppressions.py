@@ -100,7 +100,7 @@ class PlaceRule:
         return whole_pattern(function or "*"), path_pattern(file or "*")
 
     def matches(self, finding: Finding) -> bool:
-        frames = finding.own_stack
+        frames = finding.rule_stack
         is_any = self.class_name == ANY_CLASS and finding.class_name not in CRASH_CLASSES
         if not (is_any or self.class_name in finding.classes) or len(frames) < len(self.patterns):
             return False
@@ -113,10 +113,25 @@ def rule_of(line: str) -> Union[Rule, PlaceRule]:
     return PlaceRule(line) if line.startswith(PLACE + ":") else Rule(line)
 
 
+# Callers of a leak that its line names: wrappers of malloc rarely call more than one another.
+LEAK_CALLERS = 2
+
+
+def frames_of_rule(finding: Finding) -> List[Frame]:
+    """Returns those that tell a finding from others: the place, and of a leak some callers."""
+    callers, frames = LEAK_CALLERS if finding.is_leak else 0, list(finding.own_stack)
+    for frame in finding.rule_stack[len(frames):]:
+        if callers == 0:
+            break
+        frames.append(frame)
+        callers -= not frame.is_inlined
+    return frames
+
+
 def suppression_of(finding: Finding, root: str) -> str:
     """Returns the line that suppresses a finding and no others, or nothing if its place is not known."""
     frames = [frame_text(frame.function) + "@" + frame_text(stable_path(frame.file or frame.module, root))
-              for frame in finding.own_stack if frame.function or frame.module]
+              for frame in frames_of_rule(finding) if frame.function or frame.module]
     return f"{PLACE}:{finding.class_name}:{';'.join(frames)}" if frames else ""
 
 

@@ -76,6 +76,29 @@ def check_rules(suite: Suite, folder: str, compiler: str) -> None:
         expect_ran(ran, 99 if left else 0, " suppressed; 1 process, ")
 
 
+WRAPPED = """#include <stdlib.h>
+static void *volatile sink;
+__attribute__((noinline)) static void *allocate(size_t size) { return malloc(size); }
+__attribute__((noinline)) static void parse(void) { sink = allocate(40); sink = NULL; }
+__attribute__((noinline)) static void load(void) { sink = allocate(30); sink = NULL; }
+int main(void) { parse(); load(); return 0; }
+"""
+
+
+def check_generated(suite: Suite, folder: str, compiler: str) -> None:
+    """The line for a leak leaves another one in the report that the same function has allocated. A line with that
+    function alone suppresses both."""
+    program = make(folder, compiler, WRAPPED)
+    ran = run_it(suite, "--gen-suppressions", "--", program)
+    lines = re.findall(r"suppression: (at:leak:.*)", ran.err)
+    expect([re.findall(r"(\w+)@", it)[:2] for it in lines], [["allocate", "parse"], ["allocate", "load"]], ran.err)
+    for line, count in ((lines[0], 1), (lines[0].partition(";")[0], 2)):
+        with open(f"{folder}/rules", "w", encoding="utf-8") as file:
+            file.write(line + "\n")
+        ran = run_it(suite, "--suppressions", f"{folder}/rules", "--", program)
+        expect_ran(ran, 99 if count == 1 else 0, f" {count} suppressed; 1 process, ")
+
+
 def check_outputs(suite: Suite, folder: str, compiler: str) -> None:
     program = make(folder, compiler)
     outputs = [f"--{name}={folder}/out.{name}" for name in FORMS]
@@ -252,7 +275,8 @@ def check_many_exits(suite: Suite, folder: str, compiler: str) -> None:
 
 def tests(suite: Suite) -> None:
     for compiler in ("gcc", "clang"):
-        for name, check in (("forms", check_forms), ("suppressed", check_rules), ("outputs", check_outputs),
+        for name, check in (("forms", check_forms), ("suppressed", check_rules),
+                            ("generated suppressions", check_generated), ("outputs", check_outputs),
                             ("of several processes", check_several), ("if a thread does not stop", check_stuck),
                             ("under a filter of system calls", check_filtered),
                             ("nobody wakes at an exit", check_exits),
