@@ -31,7 +31,8 @@ asancol: $(SOURCES)
 # trace, and then a load in a redzone on the stack and a store in a global's. They are checked by ./asancol if that is up
 # to date. Else one is built for this alone, without its proof, in a minute or two, and is not kept.
 ifneq ($(HAS_CC),)
-demo: recorder run
+demo:
+	+@$(MAKE) -s $(if $(filter -j%,$(MAKEFLAGS)),,-j$(shell nproc)) LLVM_CONFIGS= recorder run
 	ASANCOL_CC='$(CC)' recorder/asancol-cc -g examples/bug.c -o bug
 	@$(SHOW) -- ./bug Alice
 else

@@ -31,6 +31,9 @@ from .watch import Watch, kill_all
 # Before the name of a test that failed beside others, and passed alone.
 ALONE = "passed alone: "
 
+# How far a suite is, so often, in seconds; quick.py passes it on.
+PROGRESS, PROGRESS_EVERY = "so far", 30
+
 HAS_TESTS = re.compile(r"^(?:def tests\(|@\w*test$)", re.M)
 # What no XML may have.
 NO_XML = re.compile("[^\t\n\x20-\ud7ff\ue000-\ufffd\U00010000-\U0010ffff]")
@@ -210,9 +213,13 @@ class Suite:
                 for each in shared:
                     pool.submit(each.made)
                 running: List["Future[Result]"] = [pool.submit(self.run_test, test) for test in chosen]
+                said = time.monotonic()
                 try:
                     for ended in as_completed(running):
                         self.take(ended.result())
+                        if time.monotonic() - said > PROGRESS_EVERY:
+                            print(f"{PROGRESS}: {len(self.results)} of {len(chosen)} tests", flush=True)
+                            said = time.monotonic()
                 except BaseException:
                     pool.shutdown(cancel_futures=True)
                     raise

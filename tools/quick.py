@@ -17,9 +17,9 @@ If ./asancol is up to date, which is proved, it takes the place of both. With --
 be, and what `make check` has run is left out: the tests of the crates and those of the program.
 
 Words choose the parts whose names have one of them: `crate NAME`, `program`, `fake: fuzz`,
-`fake: runs`, `recorder`, `asancol-run` and `packages`. A line says when a part begins, and another
-one how it ended. Skipped ones come after them, with reasons. The last line is 'N passed, N failed,
-N skipped'. The status is 0 if something passed and nothing failed.
+`fake: runs`, `recorder`, `asancol-run` and `packages`. A line says when a part begins, one a minute
+how far it is, and another one how it ended. Skipped ones come after them, with reasons. The last
+line is 'N passed, N failed, N skipped'. The status is 0 if something passed and nothing failed.
 """
 
 import argparse
@@ -42,13 +42,16 @@ import gate
 from files import TOP
 from testing import environment
 from testing.programs import killed_after
-from testing.suite import ALONE
+from testing.suite import ALONE, PROGRESS
 
 COUNTS = re.compile(r"(\d+) passed[,;] (\d+) failed")
 LEFT_OUT = re.compile(r"^left out: (.*)$", re.M)
 PASSED_ALONE = re.compile(rf"^{ALONE}.*$", re.M)
 # Lines that tell nothing of a failure.
-NO_FAILURE = re.compile(r"left out: |test .* ok$")
+NO_FAILURE = re.compile(rf"left out: |test .* ok$|{PROGRESS}: ")
+FAR = re.compile(rf"^{PROGRESS}: .*$", re.M)
+# How often it is said how far a part is, in seconds.
+SAID_EVERY = 60
 
 # Some thousand traces, the same each time.
 DRAWS = ["--draws", "4000", "--seed", "1"]
@@ -77,9 +80,18 @@ class Ended(NamedTuple):
     seconds: float
 
 
-def ended(argv: List[str], folder: str = TOP, longest: float = LONGEST) -> Ended:
+def say_how_far(name: str, descriptor: int, is_over: threading.Event) -> None:
+    """Passes on what a part has printed last of how far it is."""
+    while not is_over.wait(SAID_EVERY):
+        size = os.fstat(descriptor).st_size
+        lines = FAR.findall(os.pread(descriptor, size, 0).decode(errors="replace"))
+        print(f"{name}: {lines[-1] if lines else 'still runs'}", flush=True)
+
+
+def ended(argv: List[str], folder: str = TOP, longest: float = LONGEST, name: str = "") -> Ended:
     """Runs a command and takes all that it prints until it ends, whatever it leaves running. It
-    finds no settings of make or asancol. If it takes longer, it is killed."""
+    finds no settings of make or asancol. If it takes longer, it is killed. With a name it is said
+    how far it is."""
     with tempfile.TemporaryFile("w+", errors="replace") as file, subprocess.Popen(
         argv,
         cwd=folder,
@@ -88,8 +100,12 @@ def ended(argv: List[str], folder: str = TOP, longest: float = LONGEST) -> Ended
         stdout=file,
         stderr=subprocess.STDOUT,
     ) as command:
+        is_over = threading.Event()
+        if name:
+            threading.Thread(target=say_how_far, args=(name, file.fileno(), is_over), daemon=True).start()
         with killed_after(command.pid, longest):
             _, status, used = os.wait4(command.pid, 0)
+        is_over.set()
         command.returncode = os.waitstatus_to_exitcode(status)
         file.seek(0)
         return Ended(command.returncode, file.read(), used.ru_utime + used.ru_stime)
@@ -116,7 +132,7 @@ class Results:
             return False
         print(f"{name}: begins", flush=True)
         began = time.monotonic()
-        ran = ended(argv, folder)
+        ran = ended(argv, folder, name=name)
         counts = COUNTS.findall(ran.printed)
         passed, failed = map(int, counts[-1]) if counts else (0, 0)
         failed = failed or int(ran.status != 0)
