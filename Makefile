@@ -15,7 +15,7 @@ REDZONES := examples/stack_and_global_poison.trace
 .PHONY: all demo check check-mutants check-mutants-alone stress fuzz fuzz-parsers failures bench soak install \
         uninstall clean recorder docs install-docs check-recorder check-real check-suites bench-record bench-suites \
         stress-record stress-segments install-recorder run check-run check-farm bench-run bench-scale install-run \
-        install-units options dist deb tarball check-packages check-bare lint release test races
+        install-units options dist deb tarball check-packages check-bare lint release test races check-compilers
 
 # The program, proved.
 all: asancol
@@ -107,6 +107,11 @@ ARM_DRAWS := 300
 check-recorder: asancol recorder run
 	$(if $(SANITIZE),SANITIZE=1) $(if $(TARGET),ARM_DRAWS=$(ARM_DRAWS)) recorder/tests/check.py $(if $(REST),--rest) \
 	    ./asancol $(if $(TARGET),arm:)
+
+# Each version of GCC and Clang that is there, with each linker, level and library of C++: bugs are found at their lines,
+# and one in twenty of the quick tests passes, other ones for each. It ends with a table, after some ten minutes.
+check-compilers: asancol recorder run
+	recorder/tests/compilers.py ./asancol
 
 # What parses strangers' words, objects, formats, settings and messages, in the recorder and in asancol-run: libFuzzer
 # draws inputs for each of them, for so many seconds.

@@ -107,8 +107,16 @@ TEST(load_in_the_redzone, "load 1 +39 heap-buffer-overflow", "redzones")
 
 /* Where no block ever was. */
 #define FAR(name, expected) TEST(name, expected, "class")
-FAR(far_past_the_end, "store 4 use-after-poison") { int *p = block(100 * sizeof *p); STORE(int, p + 111); }
-FAR(far_before_the_start, "store 4 use-after-poison") { int *p = block(100 * sizeof *p); STORE(int, p - 50); }
+FAR(far_past_the_end, "store 4 use-after-poison")
+{
+    int *p = (void *)block(100 * sizeof *p);
+    STORE(int, p + 111);
+}
+FAR(far_before_the_start, "store 4 use-after-poison")
+{
+    int *p = (void *)block(100 * sizeof *p);
+    STORE(int, p - 50);
+}
 FAR(far_past_a_large_block, "store 1 use-after-poison") { char *p = block(100000); STORE(char, p + 102000); }
 FAR(far_before_a_large_block, "load 1 use-after-poison") { char *p = block(100000); LOAD(char, p - 2000); }
 FAR(structure_in_a_small_block, "store 8 +8 heap-buffer-overflow; store 8 +16 heap-buffer-overflow; "
@@ -116,7 +124,7 @@ FAR(structure_in_a_small_block, "store 8 +8 heap-buffer-overflow; store 8 +16 he
 {
     struct structure {
         long words[6];
-    } *p = block(8), value = {{1}};
+    } *p = (void *)block(8), value = {{1}};
     *p = *hide(&value);
 }
 

@@ -7,7 +7,9 @@
 #include <map>
 #include <memory>
 #include <new>
+#ifndef BRIEF
 #include <regex>
+#endif
 #include <sanitizer/common_interface_defs.h>
 #include <sstream>
 #include <string>
@@ -51,6 +53,7 @@ static void fill()
 
 static void clean()
 {
+#ifndef BRIEF // it takes half a minute to compile with checks at -O3
     std::string letters(100, 'x');
     std::ostringstream out;
     out << letters << 3.5;
@@ -85,6 +88,7 @@ static void clean()
     memmove(hide(text), text + 1, large(8));
     kept = nullptr;
     printf("%zu\n", malloc_usable_size(kept));
+#endif
 }
 
 static void limit()

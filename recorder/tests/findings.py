@@ -5,6 +5,7 @@ import os
 import re
 
 from asancol_report.by_recorder import FORMS
+from calls import lines_by_sanitizer, lines_of_stacks
 from support import TESTS, expect, run, side_of
 
 SOURCE = f"{TESTS}/findings.cpp"
@@ -44,6 +45,7 @@ WORDS = {
     "other_array": "operator delete [] with alignment 128, and 10 bytes with alignment 64 were allocated",
     "other_both": "operator delete of 20 bytes with alignment 32, and 10 bytes with alignment 64 were allocated",
 }
+FLAGS_OF_CASES = ("-w", "-g", "-std=c++17", "-fno-builtin", "-fsized-deallocation")
 # AddressSanitizer does not look at these, or ends where memory is refused. It knows alignments of up to 512.
 ALONE = ("no_memory", "wcscpy", "wmemcpy", "wcsncat_before", "wcscat_nothing", "stpcpy", "mempcpy", "other_large")
 
@@ -70,13 +72,41 @@ def check_case(suite, folder, program, sanitized, name, wanted):
     expect(found_in(trace), [(wanted, line_of(name))] if wanted else [], name)
     if name in WORDS:
         expect([FORMS[it.kind].words(it) for it in side_of(trace).findings()], [WORDS[name]], "what it says")
-    if name in ALONE:
+    if sanitized is None or name in ALONE:
         return
     ran = run([sanitized, name], folder, ASAN_OPTIONS="detect_leaks=0:allocator_may_return_null=0")
     said = re.search(r"SUMMARY: AddressSanitizer: ([\w-]+)", ran.stderr.decode())
     line = re.search(r"findings\.cpp:(\d+)", ran.stderr.decode())
     expect(said and said[1], wanted, "the class that AddressSanitizer says")
     expect(int(line[1]) if line else 0, line_of(name) if wanted else 0, "and its line")
+
+
+def own_lines(program, stacks):
+    """The innermost line of each stack that is one of the cases."""
+    found = lines_of_stacks(program, stacks)
+    return {name: next((it for it in lines if it.startswith("findings.cpp:")), "") for name, lines in found.items()}
+
+
+def check_mismatches(suite, folder, compiler, *more):
+    """Each wrong pair of functions, in a program that is built with more flags."""
+    flags, program = [*FLAGS_OF_CASES, "-DBRIEF", *more], f"{folder}/findings"
+    names = [name for name, wanted in CLASSES.items() if wanted in (FAMILY, OF_NEW)]
+    classes, stacks = {}, {}
+    compiler.cpp(folder, [SOURCE], program, *flags)
+    for name in names:
+        run([program, name], folder, ASANCOL_TRACE=f"{name}.trace", ASANCOL_WHERE="1")
+        side = side_of(f"{folder}/{name}.trace")
+        found = list(side.findings())
+        classes[name] = [FORMS[it.kind].class_of(it) for it in found]
+        modules = [(side.module(place), place) for it in found for place in it.place]
+        stacks[name] = [place - start for (path, start), place in modules if path == program]
+    expect(classes, {name: [CLASSES[name]] for name in names}, "classes")
+    expect(own_lines(program, stacks), {name: f"findings.cpp:{line_of(name)}" for name in names}, "lines")
+    if compiler.has_sanitizer:
+        compiler.cpp(folder, [SOURCE], f"{folder}/sanitized", *flags, "-fsanitize=address", native=True)
+        said = lines_by_sanitizer(folder, f"{folder}/sanitized", names, "findings.cpp")
+        alone = {name for name in names if said.get(name) != f"findings.cpp:{line_of(name)}"}
+        expect(alone, set(ALONE) & set(names), "other lines by AddressSanitizer")
 
 
 def check_switch(suite, folder, program):
@@ -285,7 +315,7 @@ def check_between(suite, folder, compiler):
 def tests(suite, compiler):
     if not compiler.cxx or not compiler.has_sanitizer:
         return
-    flags = ["-w", "-g", "-O0", "-std=c++17", "-fno-builtin", "-fsized-deallocation"]
+    flags = [*FLAGS_OF_CASES, "-O0"]
     program = suite.built(compiler.cpp, [SOURCE], f"findings-{compiler}", *flags)
     sanitized = suite.built(compiler.cpp, [SOURCE], f"findings-{compiler}-sanitized", *flags, "-fsanitize=address",
                             native=True)

@@ -82,10 +82,11 @@ def links_with(compiler: Compiler) -> List[List[str]]:
     if "clang" not in compiler.name:
         return [["-O2", "-flto"]]
     number = re.search(r"version (\d+)", run([compiler.name, "--version"], ".").stdout.decode())
-    folder = f"/usr/lib/llvm-{number[1] if number else ''}"
+    version = number[1] if number else ""
+    folder, lld = f"/usr/lib/llvm-{version}", f"-fuse-ld=lld-{version}"  # up to 16 it takes any lld for its own
     ways = []
-    if os.path.exists(f"{folder}/bin/ld.lld"):
-        ways += [["-O2", "-flto", "-fuse-ld=lld"], ["-O2", "-flto=thin", "-fuse-ld=lld"]]
+    if shutil.which(f"ld.lld-{version}"):
+        ways += [["-O2", "-flto", lld], ["-O2", "-flto=thin", lld]]
     if os.path.exists(f"{folder}/lib/LLVMgold.so") and shutil.which("ld.gold"):
         ways += [["-O2", "-flto", "-fuse-ld=gold"]]
     return ways

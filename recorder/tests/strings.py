@@ -27,9 +27,9 @@ def has(compiler: Compiler, library: str) -> bool:
     return run(argv, "/").returncode == 0
 
 
-def check_faults(suite: Suite, folder: str, compiler: Compiler, library: str, by_object: bool) -> None:
+def check_faults(suite: Suite, folder: str, compiler: Compiler, library: str, by_object: bool, *more: str) -> None:
     """Each has a report, of the same class as AddressSanitizer's if that names one."""
-    flags = [*LIBRARIES[library][0], "-w", "-std=c++17"]
+    flags = [*LIBRARIES[library][0], "-w", "-std=c++17", *more]
     if by_object:
         compiler.cpp(folder, [f"{TESTS}/strings.cpp"], "strings.o", *flags, "-c")
     compiler.cpp(folder, ["strings.o" if by_object else f"{TESTS}/strings.cpp"], "strings", *flags)
@@ -43,7 +43,8 @@ def check_faults(suite: Suite, folder: str, compiler: Compiler, library: str, by
         status, texts, _ = reports(suite.asancol, f"{folder}/{name}.trace")
         expect(status, 1, f"{name}: {texts}")
         if compiler.has_sanitizer:
-            said = by_sanitizer(run(["./sanitized", name], folder).stderr.decode(errors="replace"))
+            text = run(["./sanitized", name], folder, ASAN_OPTIONS="symbolize=0").stderr.decode(errors="replace")
+            said = by_sanitizer(text)
             if said is not None and said[0] not in ["SEGV", *(it.split()[-1] for it in texts)]:
                 raise Failure(f"{name}: AddressSanitizer says {said}, the trace {texts}")
 

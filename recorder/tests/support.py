@@ -212,15 +212,15 @@ def compilers():
 VERSIONS = {"gcc": (11, 12), "clang": (13, 14, 15, 16, 19, 22)}
 
 
-def versions_of(name):
-    """The other versions of a compiler that are there, and any newer or older than Debian's."""
+def versions_of(name, with_own=False):
+    """The other versions of a compiler that are there, and any newer or older than Debian's; or all versions."""
     found, own = [], os.path.realpath(shutil.which(name) or name)
     numbers = {int(it[1]) for it in map(re.compile(rf"{name}-(\d+)$").match, programs_there()) if it}
     for number in sorted(numbers | set(VERSIONS[name])):
         path, cxx = shutil.which(f"{name}-{number}"), f"{'g++' if name == 'gcc' else 'clang++'}-{number}"
         if path is None:
             leave_out(f"{name}-{number} is not there")
-        elif os.path.realpath(path) != own:
+        elif with_own or os.path.realpath(path) != own:
             found.append(Compiler(f"{name}-{number}", cxx if shutil.which(cxx) else None))
     return found
 
