@@ -16,10 +16,10 @@
 #include "base/digits.h"
 #include "base/self.h"
 #include "process/given.h"
-#include "environment/dormant.h"
 #include "environment/hub_names.h"
 #include "process/process.h"
 #include "process/root.h"
+#include "process/waiter.h"
 #include "stream/side.h"
 #include "stream/state.h"
 #include "base/system.h"
@@ -111,10 +111,10 @@ static const char *expected_in(const struct target *target, const char *path, co
     return built != BUILT_BY_OTHERS ? path : NULL;
 }
 
-/* Whether programs that this one starts are to connect to its hub: else each has a run of its own. */
+/* Whether programs that this one starts are to connect to its hub: if that is its own run, each has one, too. */
 static bool expects(void)
 {
-    return recorder_hub() != NULL && !dormant_is_there();
+    return recorder_hub() != NULL && !waiter_has_begun();
 }
 
 /* Leaves word with the hub. False: the file needs none, or no word could be left. */

@@ -1,9 +1,9 @@
 /* The sockets of a program's own run, and the process that waits there to become asancol-run (own_run.h).
 
    Called: waiter_begin by own_run.c and waiter_end by run_connection.c, at the start, in the only thread, not in a
-   signal handler; waiter_retire and waiter_leave by run_connection.c, waiter_reap and waiter_has_begun by root.c, in
-   the thread that ends the process, executes a program or waits for its children, also in a handler. Lock: none is
-   taken. Memory comes from the system alone. */
+   signal handler; waiter_retire and waiter_leave by run_connection.c, waiter_reap by root.c, waiter_has_begun by that
+   and exec_notice.c, in the thread that ends the process, executes a program or waits for its children, also in a
+   handler. Lock: none is taken. Memory comes from the system alone. */
 #ifndef ASANCOL_WAITER_H
 #define ASANCOL_WAITER_H
 

@@ -60,6 +60,16 @@ def check_without(suite: Suite, folder: str) -> None:
     expect_ran(run_alone(suite, suite.program, "past", ASANCOL_RUN="0"), 0, absent=["asancol"])
 
 
+STARTS = """#include <sys/wait.h>
+#include <unistd.h>
+int main(int count, char **argv) {
+    int status = 0;
+    if (fork() == 0) return execv(argv[1], argv + 1);
+    wait(&status);
+    return WEXITSTATUS(status); }
+"""
+
+
 def check_options(suite: Suite, folder: str) -> None:
     """The run has the words of ASANCOL_RUN_OPTIONS, also where there is nothing to report."""
     result = f"{folder}/a b.jsonl"
@@ -73,6 +83,12 @@ def check_options(suite: Suite, folder: str) -> None:
     for way, status in (("place", 0), ("range", 99)):  # a program that it becomes is of the same run
         ran = run_alone(suite, program, "calmly", program, way, ASANCOL_RUN_OPTIONS="-v")
         expect_ran(ran, status, "continued as another program", absent=["INCOMPLETE"])
+    write_text(f"{folder}/starts.c", STARTS)
+    call([CC, "-g", "starts.c", "-o", "starts"], cwd=folder, check=True)
+    for way, status in (("sound", 0), ("past", 99)):  # a program that its child becomes
+        for option in ("--timeout 60", "-v", f"--json '{folder}/%p.jsonl'"):
+            ran = run_alone(suite, f"{folder}/starts", suite.program, way, ASANCOL_RUN_OPTIONS=option)
+            expect_ran(ran, status, absent=["INCOMPLETE"])
 
 
 # Runs each program with its words, as the process to which orphans come, and says how it ended and how many processes
