@@ -169,7 +169,7 @@ static void say_awaited(size_t count)
 }
 
 /* What holds of the run, and not of one process. */
-static struct strings troubles_of(const struct run_end *end, const char *command)
+static struct strings troubles_of(const struct run_end *end, const char *command, bool is_unchecked)
 {
     static char missing[96], lost[96]; /* there is one run */
     struct strings lines = {0};
@@ -187,6 +187,8 @@ static struct strings troubles_of(const struct run_end *end, const char *command
         strings_add(&lines, "INCOMPLETE: the command was ended by --timeout");
     if (end->lost > 0)
         strings_add(&lines, lost);
+    if (is_unchecked)
+        strings_add(&lines, "INCOMPLETE: code was not checked, and --unchecked=error was given");
     return lines;
 }
 
@@ -441,9 +443,9 @@ int main(int count, char **argv)
         .lost = nested.lost,
         .notes = notes_of(&options, collected.status),
     };
-    end.troubles = troubles_of(&end, options.command[0]);
-    bool is_incomplete = is_cut_short(&sum, &end);
     bool is_error = options.unchecked == UNCHECKED_ERROR && unchecked_count() > 0;
+    end.troubles = troubles_of(&end, options.command[0], is_error);
+    bool is_incomplete = is_cut_short(&sum, &end);
     if (!end.nothing || is_incomplete)
         nested_note_recorded();
     enum report_answer answer = conclude(&options, &sum, &end, nested.is_there);

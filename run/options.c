@@ -100,6 +100,9 @@ static _Noreturn void fail_unknown(const char *word, size_t length)
         say("asancol-run: unknown option %.*s; did you mean --%s?", (int)length, word, name);
     else
         say("asancol-run: unknown option %.*s", (int)length, word);
+    const char *given = getenv("ASANCOL_RUN_OPTIONS");
+    if (given != NULL && strstr(given, word) != NULL)
+        say("asancol-run: it is in ASANCOL_RUN_OPTIONS=%s", given);
     say("asancol-run --help lists the options");
     exit(OWN_FAILURE);
 }

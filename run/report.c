@@ -539,7 +539,8 @@ void report_start(void)
         errno = error;
     }
     if (report.child == 0) {
-        say("asancol-run: %s: %s", named != NULL && *named != 0 ? named : "asancol-report", strerror(errno));
+        say("asancol-run: %s: %s: install the whole package, or name it in ASANCOL_REPORT",
+            named != NULL && *named != 0 ? named : "asancol-report", strerror(errno));
         give_up();
         report.has_ended = true;
         return;

@@ -6,6 +6,7 @@
 #include <spawn.h>
 #include <stdlib.h>
 #include <string.h>
+#include <sys/stat.h>
 #include <sys/wait.h>
 #include <unistd.h>
 
@@ -15,16 +16,23 @@
 /* With which asancol-report refuses a command line or a file. */
 enum { REFUSED = 2 };
 
+/* What can be read only once is left to the report. */
+static bool is_file(const char *path)
+{
+    struct stat seen;
+    return stat(path, &seen) == 0 && S_ISREG(seen.st_mode);
+}
+
 /* The words of the command line that name them. */
 static struct strings words_of_rules(const struct options *options)
 {
     static const char rules[] = "--suppressions";
     struct strings words = {0};
     for (size_t i = 0; i + 1 < options->report.count; i++) {
-        if (strcmp(options->report.items[i], rules) != 0)
+        if (strcmp(options->report.items[i], rules) != 0 || !is_file(options->report.items[++i]))
             continue;
         strings_add(&words, rules);
-        strings_add(&words, options->report.items[++i]);
+        strings_add(&words, options->report.items[i]);
     }
     return words;
 }

@@ -295,7 +295,7 @@ def check_pytest(job: Job) -> None:
 def check_results(job: Job) -> None:
     """Each test has its own verdict and its file, and there is one report."""
     job.build()
-    ran = job.run(blocks()["A result of each test: sh 1"])
+    ran = job.run(blocks()["A result of each test: sh 1"], "sh", "-e")
     expect((ran.status, of_ctest(ran.out)), (1, BY_CTEST), ran.out + ran.err)
     expect(len(glob.glob(f"{job.folder}/results/*.jsonl")), 3, "results, but not of what ctest has killed")
     expect_places(ran.out)

@@ -36,7 +36,8 @@ ADVICE = (
     (r"pointer-pair", "Find where both pointers come from: only those into one object, or just past its end, may be "
      "compared or subtracted."),
     (r"odr", "Find both definitions of the variable, and rename one or make it static or hidden: all modules use the "
-     "same one, although they may expect another size or value."),
+     "same one, although they may expect another size or value. ASAN_OPTIONS=detect_odr_violation=1 leaves out those "
+     "of one size, as where two libraries have the same source."),
     (r"init.*-order", "Find the initialiser in the first stack, and make the global that it uses a static variable "
      "of a function: the order in which files are initialised is undefined."),
     (r"bad-shadow", "Find the code that wrote to the checker's own memory: through a wild pointer, or in a stack that "

@@ -40,6 +40,8 @@ PATIENCE = 60
 WRAPPERS = [("asancol-cc", "cc"), ("asancol-clang", "clang")]
 # Settings that a program of the same name without them does not have.
 FRONTS = ("ASANCOL", "ASAN_", "LSAN_", "LD_PRELOAD", "GLIBC_TUNABLES", "MALLOC_")
+# Without which the sample is run: they may ask for another status.
+WITHOUT = ("ASANCOL_RUN", "ASAN_OPTIONS", "LSAN_OPTIONS")
 
 
 class Doctor:
@@ -116,8 +118,11 @@ class Doctor:
                      "start: sysctl vm.overcommit_memory=0")
 
     def look_at_samples(self) -> None:
-        """Finds the bug with each compiler that is there."""
+        """Finds the bug with each compiler that is there, unless it is known why it can't."""
         looked = 0
+        if self.counts["error"]:
+            self.say("note", "no sample was tried: mend the errors above first")
+            return
         for name, compiler in WRAPPERS:
             wrapper = self.find(name)
             if wrapper is None or on_path(compiler) is None:
@@ -140,7 +145,7 @@ class Doctor:
         if status:
             self.say("error", f"{name} compiles nothing: it ended with status {status}")
             return
-        alone = {it: value for it, value in os.environ.items() if it != "ASANCOL_RUN"}
+        alone = {it: value for it, value in os.environ.items() if not it.startswith(WITHOUT)}
         for how, argv in (("under asancol-run", [self.run, "--", "./sample"]), ("by itself", ["./sample"])):
             self.judge(name, how, *ask(argv, folder, alone))
 

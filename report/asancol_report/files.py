@@ -1,4 +1,4 @@
-"""Files that are written whole or not at all."""
+"""Files that are written whole or not at all, except the page of a job of GitHub's, to which text is added."""
 
 from __future__ import annotations
 
@@ -62,6 +62,9 @@ def write_file(path: str, fill: Callable[[TextIO], None]) -> None:
         if path == STANDARD_OUTPUT:
             fill(sys.stdout)
             sys.stdout.flush()
+        elif path == os.environ.get("GITHUB_STEP_SUMMARY"):  # others write there, too
+            with encoded(os.open(path, os.O_WRONLY | os.O_CREAT | os.O_APPEND | os.O_CLOEXEC, 0o666)) as out:
+                fill(out)
         elif is_replaceable(path):
             write_beside(path, fill)
         else:

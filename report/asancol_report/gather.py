@@ -371,7 +371,7 @@ class Gatherer:
             base._replace(function=it.function, file=it.file, line=it.line, column=it.column,
                           is_inlined=number < len(names) - 1, text=self.sources.line(it.file, it.line),
                           caret=self.sources.caret(it.file, it.line, it.column, module.built),
-                          is_bare=is_linked and not it.file and not is_standard(it.function))
+                          is_bare=is_linked and not it.line and not is_standard(it.function))
             for number, it in enumerate(names)
         )
 

@@ -53,7 +53,9 @@ class Report:
     def __init__(self, options: Options, beside: str) -> None:
         self.options = options
         self.beside = beside
-        root = options.value("--source-root")
+        # Annotations want paths from the checkout, wherever the job runs its tests.
+        of_job = os.environ.get("GITHUB_WORKSPACE", "") if options.value("--format") == GITHUB else ""
+        root = options.value("--source-root") or of_job
         self.root = os.path.realpath(root) if root else ""
         self.results = Results()
         self.results.lists_unchecked = options.value("--unchecked") != "no"

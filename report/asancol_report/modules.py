@@ -235,5 +235,5 @@ class Modules:
         system's, and plain programs that have the recorder preloaded."""
         bare = {module.path for module in self.by_key.values() if module.names and not module.trouble
                 and not (module.elf and module.elf.is_program and not module.elf.is_linked)
-                and not any(name.file for names in module.names.values() for name in names)}
+                and not any(name.line for names in module.names.values() for name in names)}
         return sorted(path for path in bare if not path.startswith(("/usr/lib", "/lib")))

@@ -251,8 +251,8 @@ class Text:
     def count_line(self, finding: Finding) -> str:
         place = shown_path(place_text(finding.top), self.root)
         function = f" in {brief(finding.top.function)}" if finding.top.function else ""
-        times = f"{finding.count} times, {plural(finding.processes, 'process')}"
-        return f"asancol: {finding.class_name}{printable(function)} {printable(place)}: {times}"
+        times = f": {finding.count} times, {plural(finding.processes, 'process')}" if finding.count > 1 else ""
+        return f"asancol: {finding.class_name}{printable(function)} {printable(place)}{times}"
 
     def summary(self, results: Results, has_places: bool = True) -> Iterator[str]:
         if has_places:

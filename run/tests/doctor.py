@@ -34,16 +34,15 @@ def check_lacking(suite: Suite, folder: str) -> None:
     expect_lines(ran, 1, f"error: asancol, the checker, does not start: {folder}/none --version: No such file",
                  "warning: reports have no lines: neither llvm-symbolizer nor addr2line was found: install ",
                  "note: ASAN_OPTIONS=detect_leaks=0 is set\n", "warning: ASANCOL_RUN=0 is set: ",
-                 "note: asancol-cc was not tried: cc is not on the path\n",
-                 "error: no program can be built: ", "2 errors, 2 warnings\n")
+                 "note: no sample was tried: mend the errors above first\n", "1 error, 2 warnings\n")
+    expect_lines(ask(suite, PATH=f"{folder}/empty"), 1, "note: asancol-cc was not tried: cc is not on the path\n",
+                 "error: no program can be built: ", "1 error, 2 warnings\n")
 
 
 def check_limited(suite: Suite, folder: str) -> None:
-    """A limit under which no program starts is named, and so is what the sample then printed."""
+    """A limit under which no program starts is named."""
     ran = ask(suite, lambda: resource.setrlimit(resource.RLIMIT_AS, (8 << 30, 8 << 30)))
-    expect_lines(ran, 1, "error: ulimit -v is 8388608: ", "ulimit -v unlimited\n",
-                 "without the overflow, its line, the leak, status 99; it ended with status 98, and printed:\n"
-                 "    asancol: ")
+    expect_lines(ran, 1, "error: ulimit -v is 8388608: ", "ulimit -v unlimited\n", "1 error, 1 warning\n")
 
 
 def check_unchecked(suite: Suite, folder: str) -> None:
@@ -56,8 +55,9 @@ def check_unchecked(suite: Suite, folder: str) -> None:
 
 def check_leaks_off(suite: Suite, folder: str) -> None:
     """A setting that turns something off is seen in the sample."""
-    ran = ask(suite, ASAN_OPTIONS="detect_leaks=0")
-    expect_lines(ran, 1, "by itself: without the leak; it ended with status 99")
+    ran = ask(suite, ASANCOL_LEAKS="0", ASAN_OPTIONS="exitcode=7")
+    expect_lines(ran, 1, "note: ASAN_OPTIONS=exitcode=7 is set\n",
+                 "by itself: without the leak; it ended with status 99", "    asancol: 1 report at 1 place; ")
 
 
 def tests(suite: Suite) -> None:

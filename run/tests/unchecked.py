@@ -51,6 +51,7 @@ def check_summary(suite: Suite, folder: str, compiler: str) -> None:
         (["--unchecked", "list", "./some"], 0, "; not checked: u.o\n"),
         (["--unchecked=no", "./some"], 0, " events\n"),
         (["--unchecked=error", "./some"], 98, "; not checked: u.o\n"),
+        (["--unchecked=error", "./some"], 98, "asancol: INCOMPLETE: code was not checked, and --unchecked=error was "),
         (["--unchecked=error", "--incomplete-exitcode=7", "./some"], 7, "; not checked: u.o\n"),
         (["-q", "./some"], 0, "; not checked: u.o\n"),
         (["./more"], 0, "; not checked: n0.o, n1.o, n2.o, n3.o, n4.o and 2 more\n"),

@@ -10,7 +10,9 @@ from typing import Any, List
 
 from leaks import make
 from lives import at_terminal
-from support import CC, REPORT, RUN, TOP, Failure, Ran, Suite, environment, expect, expect_in, expect_ran
+from support import (
+    CC, REPORT, RUN, TOP, Failure, Ran, Suite, environment, expect, expect_in, expect_ran, write_text,
+)
 from testing.classes import THE_SAME, table_of_classes
 from testing.programs import call
 from testing.reports import FORMS
@@ -227,6 +229,24 @@ def check_forms(suite: Suite, folder: str) -> None:
         expect("AddressSanitizer" in ran.err, False, ran.err)
     ran = suite.run_argv([RUN, "--format=github", "--", "true"], ASANCOL_REPORT=REPORT)
     expect_ran(ran, 98, "::error title=incomplete::asancol: NOTHING WAS RECORDED")
+
+
+def check_job(suite: Suite, folder: str) -> None:
+    """In a job of GitHub's, annotations have paths from the checkout, wherever the tests run, and the page of the job
+    keeps its text."""
+    for name in ("project", "build"):
+        os.mkdir(f"{folder}/{name}")
+    write_text(f"{folder}/project/a.c", "int main(int count, char **argv) { char text[4]; text[3 + count] = 0; "
+                                        "return 0; }\n")
+    write_text(f"{folder}/page", "before\n")
+    call([CC, "-g", "-w", "../project/a.c", "-o", "a"], cwd=f"{folder}/build", check=True)
+    ran = suite.run_argv([RUN, "--format=github", "--markdown", f"{folder}/page", "--", "./a"], cwd=f"{folder}/build",
+                         ASANCOL_REPORT=REPORT, GITHUB_WORKSPACE=f"{folder}/project",
+                         GITHUB_STEP_SUMMARY=f"{folder}/page")
+    expect_ran(ran, 99, "::error file=a.c,line=1,")
+    with open(f"{folder}/page", encoding="utf-8") as file:
+        text = file.read()
+    expect((text.startswith("before\n"), "stack-buffer-overflow" in text), (True, True), text)
 
 
 def check_summaries_are_the_same(suite: Suite, folder: str) -> None:
@@ -648,7 +668,7 @@ def check_small_files(suite: Suite, folder: str) -> None:
 def tests(suite: Suite) -> None:
     expect(os.access(CC, os.X_OK), True, "the recorder is built")
     for name, run_it in (
-        ("report", check_report), ("colors", check_colors), ("forms", check_forms),
+        ("report", check_report), ("colors", check_colors), ("forms", check_forms), ("job of GitHub", check_job),
         ("summaries", check_summaries_are_the_same),
         ("suppressions", check_suppressed), ("variables", check_variables),
         ("lowered bounds", check_lowered), ("names of classes", check_names), ("short stacks", check_short_stacks),
