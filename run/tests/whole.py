@@ -454,12 +454,13 @@ def check_folder_removed(suite: Suite, folder: str) -> None:
 
 
 def check_bad_rules(suite: Suite, folder: str) -> None:
-    """A bad file of suppressions or baseline is named also if there is no report."""
-    for option in ("--suppressions", "--baseline"):
-        path = f"{folder}/rules"
-        with open(path, "w", encoding="utf-8") as file:
-            file.write("nonsense\n")
-        expect_ran(run_real(suite, option, path, "--", suite.program, "sound"), 98, f"{path}:1: ", "not used")
+    """A bad baseline is named also if there is no report, and so are suppressions that can be read only once."""
+    path = f"{folder}/rules"
+    write_text(path, "nonsense\n")
+    expect_ran(run_real(suite, "--baseline", path, "--", suite.program, "sound"), 98, f"{path}:1: ", "not used")
+    ran = suite.run_argv(["bash", "-c", f"{RUN} --suppressions <(cat {path}) -- {suite.program} sound"],
+                         ASANCOL_REPORT=REPORT)
+    expect_ran(ran, 98, ":1: nonsense: not CLASS:PATTERN", "not used")
 
 
 def check_crash(suite: Suite, folder: str) -> None:
