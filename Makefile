@@ -204,13 +204,16 @@ DOCUMENTS := $(ROOT)/share/doc/asancol
 install-recorder: install-docs
 	$(MAKE) -C recorder install PREFIX=$(PREFIX) DESTDIR=$(DESTDIR)
 
-# The pages as they lie in the tree, so that their links hold.
+# The pages as they lie in the tree, so that their links hold; one to code is its text alone.
+TO_CODE := \]\((\.\./)*(\.ci|crates|common|run|recorder|report|man|testing|tests|tools|packaging|options)(/[^)]*)?\)
+
 install-docs: $(if $(HAS_PYTHON),docs)
 	install -d $(DOCUMENTS)/docs/inside
 	install -m 644 README.md CHANGELOG.md CONTRIBUTING.md $(DOCUMENTS)
 	install -m 644 $(sort $(wildcard docs/*.md) $(if $(HAS_PYTHON),docs/CALLS.md)) $(DOCUMENTS)/docs
 	install -m 644 docs/inside/*.md $(DOCUMENTS)/docs/inside
 	cp -r examples $(DOCUMENTS)
+	find $(DOCUMENTS) -name '*.md' -exec sed -i -z -E 's,\[([^]]*)$(TO_CODE),\1,g' {} +
 
 install-run:
 	$(MAKE) -C run install PREFIX=$(PREFIX) DESTDIR=$(DESTDIR)

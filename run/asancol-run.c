@@ -198,6 +198,8 @@ static struct strings notes_of(const struct options *options, int status)
     struct strings lines = lowered_lines(options, true);
     if (signal_of(status) == SIGINT)
         strings_add(&lines, "the command was interrupted by SIGINT, so later errors may be missing");
+    if (signal_of(status) == SIGTERM)
+        strings_add(&lines, "the command was ended by SIGTERM, so later errors may be missing");
     const char *runtime = unchecked_sanitizer();
     char *text;
     if (runtime != NULL) {

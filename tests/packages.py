@@ -105,6 +105,17 @@ def archive_is_enough(program: str, folder: str) -> None:
         must(["make", "-s", "deb"], top, **no_git)
 
 
+def dead_links(pages: str) -> List[str]:
+    """Returns the links of pages to files that are not there."""
+    dead = []
+    for place, _, names in os.walk(pages):
+        for name in (it for it in names if it.endswith(".md")):
+            with open(f"{place}/{name}", encoding="utf-8") as page:
+                links = re.findall(r"\]\((?!https?:|#)([^)#\s]+)", page.read())
+            dead += [f"{name}: {it}" for it in links if not os.path.exists(f"{place}/{it}")]
+    return dead
+
+
 def what_is_installed_goes_again(_: str, folder: str) -> None:
     argv = [f"DESTDIR={folder}", "PREFIX=/usr"]
     must(["make", "-s", "install", *argv])
@@ -114,6 +125,7 @@ def what_is_installed_goes_again(_: str, folder: str) -> None:
     expect("| `memcpy`, `mempcpy` | " in calls, True, "the list of calls")
     named = [*(f"docs/{it}.md" for it in ("ASAN", "REPORTS", "inside/MODEL")), "examples/bug.c"]
     expect([it for it in named if not os.path.isfile(f"{pages}/{it}")], [], "pages that are missing")
+    expect(dead_links(pages), [], "dead links")
     must(["make", "-s", "uninstall", *argv])
     left = [f"{place}/{name}" for place, _, names in os.walk(folder) for name in names]
     expect(left, [], "what is left")
@@ -237,9 +249,7 @@ def package_is_whole(_: str, folder: str) -> None:
     modules = [it for it in files_of_tree() if re.fullmatch(r"report/asancol_report/.*", it)]
     wanted += [f"lib/asancol/{it[len('report/') :]}" for it in modules]
     expect([it for it in wanted if not os.path.isfile(f"{folder}/usr/{it}")], [], "missing")
-    with open(f"{folder}/usr/share/doc/asancol/README.md", encoding="utf-8") as page:
-        links = re.findall(r"\]\((?!https?:)([^)#]+)", page.read())
-    expect([it for it in links if not os.path.exists(f"{folder}/usr/share/doc/asancol/{it}")], [], "dead links")
+    expect(dead_links(f"{folder}/usr/share/doc/asancol"), [], "dead links")
     expect("no licence" in must(["cat", f"{folder}/usr/share/doc/asancol/copyright"]), True, "copyright")
     if shutil.which("man"):
         shown = must(["man", f"{folder}/usr/share/man/man1/asancol-c++.1.gz"], folder, LC_ALL="C")
