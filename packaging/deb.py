@@ -91,8 +91,9 @@ def zip_pages(root: str) -> None:
 def add_documents(root: str, version: str, maintainer: str, time: int) -> None:
     """Adds to the installed pages what Debian asks for: the two changelogs, zipped, and the copyright."""
     folder = f"{root}/usr/share/doc/asancol"
-    write(f"{folder}/README.md", text_of(f"{TOP}/README.md").replace("](CHANGELOG.md)", "](changelog.gz)"))
     os.remove(f"{folder}/CHANGELOG.md")
+    for page in glob.glob(f"{folder}/**/*.md", recursive=True):
+        write(page, text_of(page).replace("CHANGELOG.md)", "changelog.gz)"))
     with open(f"{TOP}/CHANGELOG.md", "rb") as file:
         write_zipped(f"{folder}/changelog.gz", file.read())
     date = email.utils.formatdate(time)
