@@ -38,6 +38,11 @@ FRAMEWORKS = (
 )
 
 
+# In a log of both outputs the report is where its test is.
+ORDER = (r"\[ RUN +\] Words\.HaveRoom\n(?s:.*)ERROR: asancol: heap-buffer-overflow(?s:.*)"
+         r"\n\[  FAILED  \] Words\.HaveRoom \(")
+
+
 def build(framework: Framework, folder: str, settings: Dict[str, str]) -> None:
     if not os.path.exists(f"/usr/include/{framework.header}"):
         raise LeftOut(f"{framework.header} is not there")
@@ -59,6 +64,9 @@ def check_framework(suite: Suite, folder: str, framework: Framework, settings: D
     found = findings(folder)
     line = next(at for at, text in enumerate(open_lines(f"{SOURCES}/{framework.source}"), 1) if "BUG" in text)
     expect(line in [frame.get("line") for frame in found[0]["stack"]], True, "the line of the bug")
+    if framework.source == "googletest.cpp":
+        log = run(["sh", "-c", "asancol-run -q -- ./tests 2>&1"], folder, **settings).stdout.decode()
+        expect(re.search(ORDER, log) is not None, True, log)
     alone = run(["./tests"], folder, ASANCOL_RUN="0", **settings)
     expect(alone.returncode, 0, "without checks")
 
