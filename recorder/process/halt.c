@@ -17,6 +17,7 @@
 #include "common/hub_name.h"
 #include "environment/asking.h"
 #include "process/halt_report.h"
+#include "process/halt_wait.h"
 #include "process/process.h"
 #include "process/signals.h"
 #include "process/preload_wait.h"
@@ -86,35 +87,12 @@ static int ask_for_words(bool is_left, int *patience_ms)
     return ask_begin(recorder_hub(), ASK_REPORT, true, patience_ms);
 }
 
-/* The thread that ends the process, after the number of that process; 0: none. And how many threads wait for the run,
-   the same. */
+/* The thread that ends the process, after the number of that process; 0: none. */
 static _Atomic uint64_t halting;
-static _Atomic uint64_t waiting;
-static _Thread_local bool is_waiting;
 
 static uint64_t this_thread(void)
 {
     return (uint64_t)self_process() << 32 | (uint32_t)system_gettid();
-}
-
-/* In a forked child the number is that of its parent. */
-static uint32_t others_waiting(void)
-{
-    uint64_t seen = atomic_load(&waiting);
-    bool is_ours = seen >> 32 == (uint64_t)self_process();
-    return is_ours ? (uint32_t)seen - is_waiting : 0;
-}
-
-void halt_wait(bool begins)
-{
-    uint64_t own = (uint64_t)self_process() << 32, before = atomic_load(&waiting), after;
-    if (is_waiting == begins)
-        return;
-    do {
-        uint64_t count = before >> 32 == own >> 32 ? (uint32_t)before : 0;
-        after = own | (begins ? count + 1 : count - (count > 0));
-    } while (!atomic_compare_exchange_weak(&waiting, &before, after));
-    is_waiting = begins;
 }
 
 /* Not for ever: a handler may have jumped out of the wait. */
@@ -123,9 +101,9 @@ void halt_is_waited_for(void)
     enum { SPAN_MS = 10 };
     const struct timespec span = {.tv_nsec = SPAN_MS * 1000 * 1000};
     /* A filter of the program's may end it at a system call: most exits make none here. */
-    if (atomic_load(&waiting) == 0)
+    if (!halt_has_waited())
         return;
-    for (int left = recorder_settings()->patience_ms; left > 0 && others_waiting() > 0; left -= SPAN_MS) {
+    for (int left = recorder_settings()->patience_ms; left > 0 && halt_others_wait() > 0; left -= SPAN_MS) {
         if (atomic_load(&halting) == this_thread() || !recorder_is_own_process())
             break;
         system_nanosleep(&span);

@@ -4,8 +4,7 @@
    Called: halt_at by record.h and by allocating.c, through the table `above` (state.h), in which the stream has the
    functions of higher layers; in the thread with the fault, perhaps in a signal handler that has interrupted the
    allocator. halt_on_death and halt_is_first_crash by the program (interface.c, by hooks.h), in any thread.
-   halt_is_waited_for by start.c and hooks.c, and halt_call_back by undefined.c, in a thread that ends the process;
-   halt_wait by showing.c, in the thread with the fault.
+   halt_is_waited_for by start.c and hooks.c, and halt_call_back by undefined.c, in a thread that ends the process.
    Lock: the caller has none of the recorder's, but what a handler has interrupted may have the allocator's. All state
    here is atomic. What begins and ends the recording takes the allocator's and the stream's (process.h), or if it is
    preloaded the loader's too (plain.h). Nothing is allocated; but the program's callbacks run at the end, and these may
@@ -27,8 +26,6 @@ void halt_at(enum code code, unsigned width, uint64_t address, uintptr_t caller,
 /* Before an exit: another thread that has halted may wait for the text of its report, or for whether it counts, and
    ends the process then. */
 void halt_is_waited_for(void);
-/* This thread begins or ends to wait so. A thread whose report counts goes on waiting until it ends the process. */
-void halt_wait(bool begins);
 /* The function that is called before the process ends, in place of an earlier one; and calls it. */
 void halt_on_death(void (*callback)(void));
 void halt_call_back(void);

@@ -19,7 +19,7 @@
 #include "environment/asking.h"
 #include "environment/hub_names.h"
 #include "environment/settings.h"
-#include "process/halt.h"
+#include "process/halt_wait.h"
 #include "stacks/unwinding.h"
 #include "stream/faults.h"
 #include "stream/sending.h"
