@@ -233,7 +233,7 @@ class Modules:
     def without_lines(self) -> List[str]:
         """Returns the programs and objects of which places were looked up, and none has a line; except the
         system's, and plain programs that have the recorder preloaded."""
-        bare = {module.path for module in self.by_key.values() if module.names and not module.trouble
+        bare = {module.path for module in self.by_key.values() if any(module.names) and not module.trouble
                 and not (module.elf and module.elf.is_program and not module.elf.is_linked)
                 and not any(name.line for names in module.names.values() for name in names)}
         return sorted(path for path in bare if not path.startswith(("/usr/lib", "/lib")))
