@@ -210,7 +210,7 @@ TO_CODE := \]\((\.\./)*(\.ci|crates|common|run|recorder|report|man|testing|tests
 install-docs: $(if $(HAS_PYTHON),docs)
 	install -d $(DOCUMENTS)/docs/inside
 	install -m 644 README.md CHANGELOG.md CONTRIBUTING.md $(DOCUMENTS)
-	install -m 644 $(sort $(wildcard docs/*.md) $(if $(HAS_PYTHON),docs/CALLS.md)) $(DOCUMENTS)/docs
+	install -m 644 $(sort $(wildcard docs/*.md docs/*.png) $(if $(HAS_PYTHON),docs/CALLS.md)) $(DOCUMENTS)/docs
 	install -m 644 docs/inside/*.md $(DOCUMENTS)/docs/inside
 	cp -r examples $(DOCUMENTS)
 	find $(DOCUMENTS) -name '*.md' -exec sed -i -z -E 's,\[([^]]*)$(TO_CODE),\1,g' {} +
