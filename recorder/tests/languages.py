@@ -1,4 +1,5 @@
-"""Rust, Fortran and D: bugs are found and named as in the language, good code has no report, and mixed programs too."""
+"""Rust, Fortran, D, and C in Go: bugs are found and named as in the language, good code has no report, and mixed
+programs too."""
 
 import glob
 import os
@@ -9,7 +10,7 @@ import sys
 from typing import Any, Dict, List, Optional, Tuple
 
 from support import CC, TESTS, TOP, Suite, build, expect, has_plugin, noted, run, write
-from testing.programs import REPORT
+from testing.programs import REPORT, write_text
 from testing.expectations import leave_out
 
 CARGO = f"{os.path.dirname(CC)}/cargo/asancol-cargo"
@@ -405,14 +406,65 @@ def check_d(suite: Suite, folder: str) -> None:
         os.unlink(f"{folder}/t.trace")
 
 
+GO = """package words
+/*
+#include <stdlib.h>
+#include <string.h>
+static char *copy(const char *text, size_t more)
+{
+    char *it = malloc(strlen(text) + more);
+    strcpy(it, text); // BUG without more
+    return it;
+}
+*/
+import "C"
+import "unsafe"
+func Copy(text string, more int) string {
+    from := C.CString(text)
+    defer C.free(unsafe.Pointer(from))
+    it := C.copy(from, C.size_t(more))
+    defer C.free(unsafe.Pointer(it))
+    return C.GoString(it)
+}
+"""
+GO_TEST = """package words
+import "testing"
+func TestGood(t *testing.T) { Copy("abc", 1) }
+func TestCopy(t *testing.T) { Copy("abc", MORE) }
+"""
+
+
+def write_go(folder: str, more: int) -> None:
+    write_text(f"{folder}/words.go", GO)
+    write_text(f"{folder}/words_test.go", GO_TEST.replace("MORE", str(more)))
+    write_text(f"{folder}/go.mod", "module example.com/words\ngo 1.19\n")
+
+
+def check_go(suite: Suite, folder: str) -> None:
+    """A bug in C of cgo is reported below the line of its test."""
+    write_go(folder, 0)
+    with open(PAGE, encoding="utf-8") as page:
+        command = found(re.compile(r"^(.*CGO_CFLAGS.*)$", re.M), page.read())
+    programs = f"{os.path.dirname(CC)}:{os.path.dirname(RUN)}:{os.environ['PATH']}"
+    ran = run(["sh", "-c", f"{command} 2>&1"], folder, ASANCOL=suite.asancol, PATH=programs)
+    text = ran.stdout.decode()
+    order = (r"=== RUN   TestCopy\n(?s:.*)heap-buffer-overflow: store of 4 bytes in strcpy\n"
+             r" +#0 0x\w+ in copy words\.go:8:")
+    expect((ran.returncode, re.search(order, text) is not None), (99, True), text)
+
+
 PAGE = f"{TOP}/docs/LANGUAGES.md"
-TOOLS = {"asancol-cargo": "cargo", "asancol-fc": "gfortran", "ASANCOL_CC=gdc": "gdc"}
+TOOLS = {"asancol-cargo": "cargo", "asancol-fc": "gfortran", "ASANCOL_CC=gdc": "gdc", "CGO_CFLAGS": "go"}
+# What summaries of clean programs have.
+SUMMARIES = {"gdc": "; not checked: program.d", "go": "1 ended abruptly; not checked: "}
 
 
 def check_page(suite: Suite, folder: str) -> None:
     """The commands of the page: clean programs are complete, except D's."""
     with open(f"{TESTS}/bug.f90", encoding="utf-8") as file:
         write(folder, program_f90=file.read(), program_d=D_PROGRAM)
+    os.mkdir(f"{folder}/go")
+    write_go(f"{folder}/go", 1)
     crate(folder, lib_rs="pub fn one() -> i32 { 1 }\n#[test] fn is_one() { assert_eq!(one(), 1) }\n")
     with open(PAGE, encoding="utf-8") as page:
         blocks = re.findall(r"^```sh\n(.*?)^```", page.read(), re.M | re.S)
@@ -423,10 +475,12 @@ def check_page(suite: Suite, folder: str) -> None:
     for block in blocks:
         if not all(shutil.which(tool) for word, tool in TOOLS.items() if word in block):
             continue
-        ran = run(["sh", "-ec", block], folder, ASANCOL=suite.asancol, PATH=f"{folder}/bin:{os.environ['PATH']}")
+        (tool,) = [tool for word, tool in TOOLS.items() if word in block]
+        ran = run(["sh", "-ec", block], f"{folder}/go" if tool == "go" else folder, ASANCOL=suite.asancol,
+                  PATH=f"{folder}/bin:{os.environ['PATH']}")
         text = ran.stderr.decode()
         expect(ran.returncode, 0, f"{block}: {text}")
-        expect(("; not checked: program.d" if "gdc" in block else "; all complete\n") in text, True, text)
+        expect(SUMMARIES.get(tool, "; all complete\n") in text, True, text)
 
 
 def tests_of_all(suite: Suite) -> None:
@@ -450,6 +504,8 @@ def tests_of_all(suite: Suite) -> None:
                 suite.test(f"fortran: {tool}", check_fortran_projects, tool)
     if is_there("gdc"):
         suite.test("D: gdc", check_d)
+    if is_there("go"):
+        suite.test("go: a test", check_go)
     suite.test("languages: page", check_page)
 
 
