@@ -128,7 +128,7 @@ SHARED = [
                                               "stacks/stacks", "stacks/thread_notes", "stacks/walks")),
             *(f"{RECORDER}/stream/{it}.c" for it in (
                 *STREAM, "fault_list", "faults", "findings", "lists", "maps", "modules", "record", "side", "stating",
-                "suspending", "thread_list"))], [],
+                "suspending", "test_name", "thread_list"))], [],
            flags=[PATIENT, "-iquote", OURS, "-include", f"{OURS}/races.h", *TABLES]),
 ]
 

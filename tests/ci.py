@@ -384,6 +384,7 @@ ROWS = [
     Row("plain"),
     Row("plain|fine"),
     Row("fine"),
+    Row("fine", "--no-such"),
     Row("hang", ctest="--timeout 1"),
     Row("leak", "--leaks=summary"),
     Row("error", "--baseline ../known.jsonl"),

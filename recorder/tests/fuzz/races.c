@@ -169,7 +169,7 @@ void near_block(struct list *list, uint64_t address, struct side_fault *fault)
 void near_global(uint64_t address, struct side_fault *fault)
 {
     struct global nearest;
-    fault->variable = globals_find(address, &nearest) ? (uint32_t)nearest.size : VARIABLE_NONE;
+    fault->variable = globals_find(address, &nearest) ? (uint8_t)nearest.size : VARIABLE_NONE;
 }
 void near_variable(struct list *list, const struct frame *frame, uint64_t address, struct side_fault *fault)
 {
