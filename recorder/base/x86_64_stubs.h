@@ -149,6 +149,40 @@ enum { STUBS_SHADOW_START = 0x7fff8000, STUBS_ADDRESS_BITS = 47 };
     "\tsyscall\n"                                                                                                      \
     "1:\tret\n"
 
+/* Calls a function with the address that is in rdi, and with the address after the call that led here, and keeps all
+   registers. The first part is that of each function; the second is reached by a jump, with the function in rax, and
+   saves the rest: what of the processor's extended state the system lets a program use, short of tiles, in 2.7 KB. How
+   that is saved is asked for once: by xsavec, xsave, or, on the oldest processors, fxsave. The header in it has to be
+   zero before. */
+#define REPORT_KEEPING(function, label)                                                                                \
+    LANDING "\tpushq %rbp\n\t.cfi_def_cfa_offset 16\n\t.cfi_offset 6, -16\n"                                          \
+            "\tmovq %rsp, %rbp\n\t.cfi_def_cfa_register 6\n"                                                         \
+            "\tpushq %rax\n\tleaq " function "(%rip), %rax\n\tjmp " label "\n"
+#define SAVED_STATE "$0x800ef"
+#define CLEAR_STATE_HEADER                                                                                             \
+    "\txorl %edx, %edx\n"                                                                                              \
+    "\tmovq %rdx, 512(%rsp)\n\tmovq %rdx, 520(%rsp)\n\tmovq %rdx, 528(%rsp)\n\tmovq %rdx, 536(%rsp)\n"               \
+    "\tmovq %rdx, 544(%rsp)\n\tmovq %rdx, 552(%rsp)\n\tmovq %rdx, 560(%rsp)\n\tmovq %rdx, 568(%rsp)\n"
+#define ASK_FOR_STATE(kind)                                                                                            \
+    "\tmovl $1, %eax\n\tcpuid\n\tshrl $27, %ecx\n\tandl $1, %ecx\n\tje 1f\n"                                         \
+    "\tmovl $13, %eax\n\tmovl $1, %ecx\n\tcpuid\n\tmovl %eax, %ecx\n\tandl $2, %ecx\n\torl $1, %ecx\n"             \
+    "1:\tincl %ecx\n\tmovl %ecx, " kind "(%rip)\n"
+#define KEEP_STATE_AND_CALL(kind)                                                                                      \
+    "\t.cfi_def_cfa 6, 16\n\t.cfi_offset 6, -16\n"                                                                    \
+    "\tpushq %rbx\n\t.cfi_offset 3, -32\n"                                                                            \
+    "\tpushq %rcx\n\tpushq %rdx\n\tpushq %rsi\n\tpushq %rdi\n\tpushq %r8\n\tpushq %r9\n\tpushq %r10\n"               \
+    "\tpushq %r11\n\tpushq %rax\n"                                                                                    \
+    "\tsubq $2688, %rsp\n\tandq $-64, %rsp\n"                                                                         \
+    "\tcmpl $0, " kind "(%rip)\n\tjne 2f\n" ASK_FOR_STATE(kind) "2:\tmovl " SAVED_STATE                              \
+    ", %eax\n" CLEAR_STATE_HEADER "\tcmpl $2, " kind "(%rip)\n\tja 3f\n\tje 4f\n\tfxsave64 (%rsp)\n\tjmp 5f\n"         \
+    "3:\txsavec64 (%rsp)\n\tjmp 5f\n4:\txsave64 (%rsp)\n"                                                           \
+    "5:\tmovq 8(%rbp), %rsi\n\tcall *-88(%rbp)\n"                                                                     \
+    "\tcmpl $2, " kind "(%rip)\n\tjb 6f\n\tmovl " SAVED_STATE                                                         \
+    ", %eax\n\txorl %edx, %edx\n\txrstor64 (%rsp)\n\tjmp 7f\n6:\tfxrstor64 (%rsp)\n"                                \
+    "7:\tleaq -80(%rbp), %rsp\n"                                                                                       \
+    "\tpopq %r11\n\tpopq %r10\n\tpopq %r9\n\tpopq %r8\n\tpopq %rdi\n\tpopq %rsi\n\tpopq %rdx\n\tpopq %rcx\n"        \
+    "\tpopq %rbx\n\t.cfi_restore 3\n\tpopq %rax\n\tpopq %rbp\n\t.cfi_def_cfa 7, 8\n\t.cfi_restore 6\n\tret\n"
+
 /* The end of a handler. Debuggers and unwinders know it by these bytes, and look at the one before. */
 #define BEFORE_END_OF_HANDLER "\tnop\n"
 #define END_OF_HANDLER "\tmovq $15, %rax\n\tsyscall\n"
