@@ -151,9 +151,8 @@ enum { STUBS_SHADOW_START = 0x7fff8000, STUBS_ADDRESS_BITS = 47 };
 
 /* Calls a function with the address that is in rdi, and with the address after the call that led here, and keeps all
    registers. The first part is that of each function; the second is reached by a jump, with the function in rax, and
-   saves the rest: what of the processor's extended state the system lets a program use, short of tiles, in 2.7 KB. How
-   that is saved is asked for once: by xsavec, xsave, or, on the oldest processors, fxsave. The header in it has to be
-   zero before. */
+   saves the rest. That is the processor's extended state without tiles, at most 2.7 KB. The processor is asked once how
+   to save it: by xsavec, by xsave, or, if it is an old one, by fxsave. The header in it has to be zero before. */
 #define REPORT_KEEPING(function, label)                                                                                \
     LANDING "\tpushq %rbp\n\t.cfi_def_cfa_offset 16\n\t.cfi_offset 6, -16\n"                                          \
             "\tmovq %rsp, %rbp\n\t.cfi_def_cfa_register 6\n"                                                         \

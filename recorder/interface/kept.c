@@ -1,6 +1,6 @@
-/* What an inline check calls that has found an access bad, where a plugin of ours has made the check (plugin/): it gets
-   the address, and the code that calls it goes on as if that were no call. So all registers are kept, and no check needs
-   room for what a call would destroy. The access's own address and frame are noted, as by callbacks.c.
+/* The calls for a bad access from checks that a plugin of ours has made (plugin/): each gets the address, and keeps all
+   registers, since the code that calls it goes on as after no call. So a check needs no room for what a call would
+   destroy. The access's own instruction and frame are noted, as by callbacks.c.
 
    Called: as callbacks.h says, by compiled code; no lock. */
 #include "interface/callbacks.h"
@@ -27,7 +27,7 @@
             ".size " label ", .-" label "\n"                                                                           \
             ".popsection\n");
 
-/* What is in the state, in all threads the same: 0 until somebody has asked. */
+/* The kind of the state, the same in all threads: 0 until the first call has asked. */
 TOP_ASM(".pushsection .bss\n\t.balign 4\n.Lkind_of_state:\t.zero 4\n.popsection\n");
 AS_FUNCTION("asancol_keeping_registers", KEEP_STATE_AND_CALL(".Lkind_of_state"))
 
