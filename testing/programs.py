@@ -121,7 +121,7 @@ class Started(subprocess.Popen):  # type: ignore[type-arg]
 
 
 def call(argv: Sequence[str], *, input: Any = None, capture_output: bool = False, check: bool = False,
-         timeout: float = PATIENCE, **options: Any) -> "subprocess.CompletedProcess[Any]":
+         timeout: Optional[float] = PATIENCE, **options: Any) -> "subprocess.CompletedProcess[Any]":
     """Runs a program as subprocess.run does, with patience."""
     if capture_output:
         options.update(stdout=subprocess.PIPE, stderr=subprocess.PIPE)

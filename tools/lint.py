@@ -31,7 +31,7 @@ STARTED_BY_SHELL = "#!/bin/sh\n''':'\n"
 SHELLS = ("#!/bin/sh\n", "#!/usr/bin/env bash\n")
 # The scripts of such a folder, and of those below it, import each other by their names alone.
 FOLDERS = ("recorder/tests", "run/tests", "report/tests", "tests", "tools", "options", "packaging",
-           "examples/farms/project", "listen", "report", "testing")
+           "examples/farms/project", "examples/frameworks", "listen", "report", "testing")
 CPPCHECK = ["--std=c11", "--enable=warning,performance,portability", "--quiet", "--inline-suppr", "--max-configs=1",
             "--suppressions-list=tools/cppcheck.txt", "--template={file}:{line}: {message} [{id}]",
             "-Irecorder", "-Irun", "-I."]

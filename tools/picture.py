@@ -29,7 +29,7 @@ def main(argv: List[str]) -> int:
         subprocess.run(argv_of_build, cwd=folder, check=True)
         subprocess.run([f"{TOP}/run/asancol-run", "-q", "--html", "report.html", "--", "./bug", "Alice"], cwd=folder,
                        env={**os.environ, "ASANCOL": os.path.abspath(argv[0])}, check=False)
-        subprocess.run([browser, "--headless", "--no-sandbox", "--disable-gpu", "--hide-scrollbars",
+        subprocess.run([str(browser), "--headless", "--no-sandbox", "--disable-gpu", "--hide-scrollbars",
                         f"--window-size={WIDTH},{HEIGHT}", f"--screenshot={TOP}/docs/report.png",
                         f"file://{folder}/report.html"], stderr=subprocess.DEVNULL, check=True)
     return 0

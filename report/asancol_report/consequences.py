@@ -113,7 +113,7 @@ def block_of(finding: Finding) -> Hashable:
 
 def by_process(findings: Iterable[Finding]) -> Dict[ProcessKey, List[Finding]]:
     """Returns the findings of each process in which one of them came up first, in the order of time."""
-    firsts = {finding.order[:2] for finding in findings}
+    firsts = {finding.first_process for finding in findings}
     mine: Dict[ProcessKey, List[Finding]] = {key: [] for key in sorted(firsts)}
     for finding in findings:
         for run, tally in finding.runs.items():
@@ -129,7 +129,7 @@ def fold(findings: Iterable[Finding]) -> Dict[ProcessKey, Finding]:
     for key, mine in by_process([it for it in findings if not it.by_recorder or it.is_leak]).items():
         earlier = Earlier()
         for finding in mine if len(mine) > 1 else ():
-            earlier.take(finding, is_new=finding.order[:2] == key and earlier.last is not None)
+            earlier.take(finding, is_new=finding.first_process == key and earlier.last is not None)
         entry = earlier.last if len(mine) > 1 else mine[0]
         if entry is not None and not entry.is_leak:
             last[key] = entry

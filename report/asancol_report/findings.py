@@ -240,11 +240,15 @@ class Finding:
         return next(iter(self.runs.values()))
 
     @property
+    def first_process(self) -> Tuple[int, int]:
+        """The run and the process in which it came up first."""
+        run = min(self.runs)
+        return run, self.runs[run].process
+
+    @property
     def order(self) -> Tuple[int, ...]:
         """What findings are sorted by: the run, the process and the event at which it came up first."""
-        run = min(self.runs)
-        tally = self.runs[run]
-        return (run, tally.process, *tally.moment)
+        return (*self.first_process, *self.runs[min(self.runs)].moment)
 
     @property
     def own_stack(self) -> Stack:

@@ -86,13 +86,14 @@ class Page:
     def in_order(self) -> List[Finding]:
         """Returns all places: what counts, in the order of time, each with what may have come of it; then the rest."""
         firsts = [finding for finding in self.results.findings() if finding.follows is None]
-        last = {finding.order[:2]: finding for finding in firsts}  # of each process
+        last = {finding.first_process: finding for finding in firsts}  # of each process
         crashes = self.results.placed_crashes()
         places: List[Finding] = []
         for finding in firsts:
+            process = finding.first_process
             places += [finding, *sorted((*finding.also, *finding.later), key=lambda it: it.order)]
-            if last[finding.order[:2]] is finding:
-                places += [crash for crash in crashes if crash.is_consequence and crash.order[:2] == finding.order[:2]]
+            if last[process] is finding:
+                places += [crash for crash in crashes if crash.is_consequence and crash.first_process == process]
         placed = set(places)
         places += [crash for crash in crashes if crash not in placed]
         return sorted(places, key=lambda finding: not finding.counts)

@@ -43,7 +43,7 @@ class Live:
         key = (file, finding.place)
         finding.forget_consequences()
         if not finding.by_recorder:
-            self.earlier.setdefault(finding.order[:2], Earlier()).take(finding, key not in self.printed)
+            self.earlier.setdefault(finding.first_process, Earlier()).take(finding, key not in self.printed)
         if key in self.printed or self.counts.get(file, 0) >= most:
             return
         waiting = socket.socket(fileno=os.dup(connection))

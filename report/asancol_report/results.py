@@ -357,7 +357,7 @@ class Results:
         last = fold(counted)
         for crash in self.crash_places.values():
             crash.forget_consequences()
-            crash.follows = last.get(crash.order[:2]) if crash.counts else None
+            crash.follows = last.get(crash.first_process) if crash.counts else None
 
     def incomplete(self) -> List[Tuple[Run, Process]]:
         return [(run, process) for run in self.runs for process in run.processes.values() if not process.is_complete]

@@ -3,7 +3,7 @@
 import json
 import os
 import re
-from typing import Any, Dict, List
+from typing import Any, Dict, List, Tuple
 
 from crashes import feed_crashes
 from testing import expect, expect_in, expect_not_in
@@ -183,10 +183,11 @@ def markdown(folder: str) -> None:
 def colors_are_asked_for(folder: str) -> None:
     """NO_COLOR is stronger than FORCE_COLOR, and an option than both."""
     one_trace(folder)
-    for settings, argv, has in (({}, (), False), ({"FORCE_COLOR": "1"}, (), True), ({"FORCE_COLOR": ""}, (), False),
-                                ({"FORCE_COLOR": "1", "NO_COLOR": "1"}, (), False),
-                                ({"NO_COLOR": "1"}, ("--color=always",), True),
-                                ({"FORCE_COLOR": "1"}, ("--color=never",), False)):
+    cases: List[Tuple[Dict[str, str], List[str], bool]] = [
+        ({}, [], False), ({"FORCE_COLOR": "1"}, [], True), ({"FORCE_COLOR": ""}, [], False),
+        ({"FORCE_COLOR": "1", "NO_COLOR": "1"}, [], False), ({"NO_COLOR": "1"}, ["--color=always"], True),
+        ({"FORCE_COLOR": "1"}, ["--color=never"], False)]
+    for settings, argv, has in cases:
         out = report(folder, "--trace", "a.trace", *argv, **settings).out
         expect("\033[" in out, has, f"{settings} {argv}")
 

@@ -33,9 +33,9 @@ int main(void) {
 
 def make(folder: str, compiler: str) -> str:
     """Builds a program of a source with lines and one without."""
-    for name, text, flags in (("session", SESSION_C, []), ("main", MAIN_C, ["-g"])):
+    for name, text, flag in (("session", SESSION_C, "-g0"), ("main", MAIN_C, "-g")):
         write_text(f"{folder}/{name}.c", text)
-        call([CC, *flags, "-O1", "-c", f"{folder}/{name}.c", "-o", f"{folder}/{name}.o"], check=True,
+        call([CC, flag, "-O1", "-c", f"{folder}/{name}.c", "-o", f"{folder}/{name}.o"], check=True,
              env={**os.environ, "ASANCOL_CC": compiler})
     call([CC, f"{folder}/session.o", f"{folder}/main.o", "-o", f"{folder}/program"], check=True)
     return f"{folder}/program"

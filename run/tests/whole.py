@@ -6,7 +6,7 @@ import re
 import shutil
 import subprocess
 import sys
-from typing import Any, List
+from typing import Any, Dict, List, Tuple
 
 from leaks import make
 from lives import at_terminal
@@ -220,7 +220,8 @@ def check_colors(suite: Suite, folder: str) -> None:
 def check_forms(suite: Suite, folder: str) -> None:
     """Lines as GCC's and annotations stand for reports, halts and incomplete runs, also without a report."""
     past = r"programs\.c:\d+:\d+: error: heap-buffer-overflow: store of 1 byte in store_past"
-    for settings in ({}, {"ASANCOL_HALT": "1"}):
+    all_settings: Tuple[Dict[str, str], ...] = ({}, {"ASANCOL_HALT": "1"})
+    for settings in all_settings:
         ran = suite.run_argv([RUN, "--format=gcc", "--", suite.program, "past"], ASANCOL_REPORT=REPORT, **settings)
         expect((ran.status, len(re.findall(past, ran.err))), (99, 1), ran.err)
         ran = suite.run_argv([RUN, "--format=github", "--", suite.program, "past"], ASANCOL_REPORT=REPORT, **settings)
