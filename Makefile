@@ -15,7 +15,7 @@ REDZONES := examples/stack_and_global_poison.trace
 .PHONY: all demo check check-mutants check-mutants-alone stress fuzz fuzz-parsers failures bench soak install \
         uninstall clean recorder docs install-docs check-recorder check-real check-suites bench-record bench-suites \
         stress-record stress-segments install-recorder run check-run check-farm bench-run bench-scale install-run \
-        install-units options dist deb tarball check-packages check-bare lint release test races check-compilers
+        install-units options dist deb tarball check-packages check-bare lint release test races check-compilers count
 
 # The program, proved.
 all: asancol
@@ -133,6 +133,11 @@ bench: asancol
 # of the real programs come as for check-real, or these are left out.
 bench-record: asancol recorder run
 	recorder/tests/bench.py ./asancol
+
+# How many instructions recorded programs take, and how much code they have: no more than instructions.txt says. A busy
+# machine counts the same, within a minute. With UPDATE=1 it writes that file.
+count: recorder
+	recorder/tests/instructions.py $(if $(UPDATE),--update)
 
 # What the suites of check-real and four more cost under asancol-run, beside AddressSanitizer: some two hours, on a
 # machine with nothing else to do.

@@ -1,13 +1,13 @@
-// C++ containers and strings: `containers COUNT`. bench.py measures it.
+// C++ containers and strings: `containers COUNT..`. bench.py measures it, and instructions.py counts its second call.
 #include <cstdio>
 #include <cstdlib>
 #include <map>
 #include <string>
 #include <vector>
 
-int main(int count, char **argv)
+// With a plain name for instructions.py, and a call for each count.
+extern "C" __attribute__((noinline)) long containers(long rounds)
 {
-    const long rounds = count > 1 ? std::atol(argv[1]) : 1;
     std::map<std::string, std::vector<long>> table;
     long sum = 0;
     for (long i = 0; i < rounds; i++) {
@@ -18,6 +18,12 @@ int main(int count, char **argv)
         if (row.size() > 20)
             table.erase(table.begin());
     }
-    std::printf("%ld\n", sum);
+    return sum;
+}
+
+int main(int count, char **argv)
+{
+    for (int i = 1; i < count; i++)
+        std::printf("%ld\n", containers(std::atol(argv[i])));
     return 0;
 }

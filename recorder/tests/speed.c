@@ -1,4 +1,5 @@
-/* The programs of the table of speed, one a run: `speed NAME COUNT`. bench.py measures them. */
+/* The programs of the table of speed, one a run: `speed NAME COUNT..`. bench.py measures them, and instructions.py
+   counts the second call of one. */
 #define _GNU_SOURCE
 #include <spawn.h>
 #include <stdint.h>
@@ -256,10 +257,13 @@ static long live(long count)
     return first != NULL;
 }
 
+#ifndef SIDE
+#define SIDE 200
+#endif
+
 /* A product of two square matrices, again and again. */
 static long matrix(long count)
 {
-    enum { SIDE = 200 };
     double(*left)[SIDE] = calloc(SIDE, sizeof *left), (*right)[SIDE] = calloc(SIDE, sizeof *right);
     double(*product)[SIDE] = calloc(SIDE, sizeof *product);
     double sum = 0;
@@ -409,10 +413,11 @@ int main(int count, char **argv)
                     {"execs", execs},
                     {"faults", faults},
                     {"same-fault", same_fault}};
-    for (size_t i = 0; count == 3 && i < sizeof programs / sizeof *programs; i++) {
+    for (size_t i = 0; count >= 3 && i < sizeof programs / sizeof *programs; i++) {
         if (strcmp(argv[1], programs[i].name) != 0)
             continue;
-        printf("%ld\n", programs[i].run(atol(argv[2])));
+        for (int j = 2; j < count; j++)
+            printf("%ld\n", programs[i].run(atol(argv[j])));
         return 0;
     }
     return 2;
