@@ -1,6 +1,6 @@
 /* What the plugin's parts share: the compiler's own headers, which want this order, and how a check is put in.
 
-   Called: by gcc.cpp and intrinsics.cpp, in GCC's one thread, as it compiles a function; no lock. */
+   Called: by gcc.cpp, intrinsics.cpp and expansion.cpp, in GCC's one thread, as it compiles a function; no lock. */
 #ifndef ASANCOL_PLUGIN_CHECKS_H
 #define ASANCOL_PLUGIN_CHECKS_H
 
@@ -14,6 +14,8 @@
 #include <gimplify.h>
 #include <gimplify-me.h>
 #include <internal-fn.h>
+#include <basic-block.h>
+#include <cfghooks.h>
 #include <fold-const.h>
 #include <stor-layout.h>
 #include <stringpool.h>
@@ -36,5 +38,7 @@ void check_before(gimple_stmt_iterator *at, const range &it);
 /* The checks of a call of an intrinsic, which is a function of the machine. Returns its name if it has a pointer, and
    nothing is known of what it accesses; else null. */
 const char *check_intrinsic(gimple_stmt_iterator *at);
+/* Adds the pass that makes the checks, in the place of GCC's own (expansion.cpp). */
+void add_expansion();
 
 #endif

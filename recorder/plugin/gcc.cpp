@@ -351,10 +351,18 @@ void add(opt_pass *pass, const char *name, pass_positioning_ops place)
     register_pass_info info = {pass, name, 0, place};
     register_callback("asancol", PLUGIN_PASS_MANAGER_SETUP, NULL, &info);
 }
+
+bool has_argument(const plugin_name_args *arguments, const char *key)
+{
+    for (int i = 0; i < arguments->argc; i++)
+        if (strcmp(arguments->argv[i].key, key) == 0)
+            return true;
+    return false;
+}
 }
 
 /* In another compiler than that which it was made for it does nothing: no compile shall fail of it. */
-int plugin_init(plugin_name_args *, plugin_gcc_version *running)
+int plugin_init(plugin_name_args *arguments, plugin_gcc_version *running)
 {
     if (!plugin_default_version_check(running, &gcc_version))
         return 0;
@@ -365,6 +373,8 @@ int plugin_init(plugin_name_args *, plugin_gcc_version *running)
     add(new checks(false), "asan0", PASS_POS_INSERT_AFTER);
     add(new apart(true), "sanopt", PASS_POS_INSERT_BEFORE);
     add(new apart(false), "sanopt", PASS_POS_INSERT_AFTER);
+    if (!has_argument(arguments, PLUGIN_PLAIN))
+        add_expansion();
     register_callback("asancol", PLUGIN_FINISH_UNIT, write_said, NULL);
     return 0;
 }

@@ -14,4 +14,11 @@ enum { PLUGIN_OLDEST = 5, PLUGIN_NEWEST = 40 };
    zero, and is one of the compiler's own texts, too. */
 #define PLUGIN_MADE_FOR "asancol's plugin for GCC"
 
+/* The plugin makes no checks itself with this argument, and leaves all to GCC: for tests, which compare the reports. */
+#define PLUGIN_PLAIN "plain"
+/* Where the shadow begins, which is what the compiler is told, too (wrapper/compilers.h). */
+#define SHADOW_BEGINS 0x7fff8000
+/* From this many accesses on a function would have calls in the place of its checks: none has as many. */
+enum { PLUGIN_NO_CALLS = 1 << 30 };
+
 #endif

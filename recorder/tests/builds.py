@@ -62,7 +62,7 @@ def check_texts(suite, folder, compiler):
     made.cc("-MMD", "-MF", "deps", "-MT", "it", "-DVALUE=1", "-c", "helper.c", "-o", "helper.o")
     expect(made.text_of("deps").startswith("it: helper.c"), True, "-MF")
     made.cc("-S", "-DVALUE=1", "helper.c")
-    expect("__asan_report_" in made.text_of("helper.s"), True, "-S")
+    expect("_report_" in made.text_of("helper.s"), True, "-S")
     made.link("main.c", "helper.s")
 
 
@@ -625,7 +625,7 @@ def check_ccache(suite, folder, compiler):
     }
     for name, (inline, settings, every, more) in forms.items():
         cache = {"CCACHE_DIR": f"{folder}/{name}", **settings}
-        for command, added, call in ((inline, {}, "__asan_report_"), (every, more, "__asan_store1_noabort")) * 2:
+        for command, added, call in ((inline, {}, "_report_"), (every, more, "__asan_store1_noabort")) * 2:
             build([*command, *argv], folder, **cache, **added)
             undefined = run(["nm", "-u", "helper.o"], folder).stdout.decode()
             expect(call in undefined, True, f"{name}: {undefined}")

@@ -183,7 +183,7 @@ def check_refusals(suite: Suite, folder: str, compiler: Compiler) -> None:
         expect_noted(folder, "helper.o")
     for flag in ("-fsanitize=thread", "-m32"):
         expect_warnings(warned(folder, compiler, flag, "-DVALUE=1", "-S", "helper.c", "-o", "helper.s"), flag)
-        expect("__asan_report_" in open(f"{folder}/helper.s").read(), False, flag)
+        expect("_report_" in open(f"{folder}/helper.s").read(), False, flag)
 
 
 def check_plain_objects(suite: Suite, folder: str, compiler: Compiler) -> None:

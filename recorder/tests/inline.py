@@ -450,7 +450,7 @@ def check_seldom_calls(suite: Suite, folder: str, compiler: Compiler) -> None:
     run([CC, "-O2", "-S", "bump.c"], folder, ASANCOL_CC=compiler.name)
     with open(f"{folder}/bump.s", encoding="utf-8") as file:
         text = file.read()
-    expect("__asan_report_" in text, True, "checks")
+    expect("_report_" in text, True, "checks")
     expect(re.findall(r"push\S*\s+%r(?:bx|1[2-5])", text), [], "registers that are saved")
 
 

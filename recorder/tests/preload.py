@@ -2,6 +2,7 @@
 
 import glob
 import os
+import re
 import signal
 import subprocess
 from typing import Dict, List, Optional, Sequence, Tuple
@@ -379,8 +380,9 @@ def check_note(suite: Suite, folder: str) -> None:
     expect(noted(PRELOADED), [], "its note")
     shown = run(["nm", "-D", "--defined-only", PRELOADED], folder).stdout.decode()
     names = [line.split()[-1] for line in shown.splitlines()]
-    odd = [it for it in names if it.startswith(("asancol", "__wrap", "__real", "__start", "__stop"))]
-    expect((odd, "malloc" in names, "__asan_report_load1_noabort" in names), ([], True, True), "names")
+    odd = [it for it in names if re.match("asancol(?!_report_)|__wrap|__real|__start|__stop", it)]
+    asked_for = {"malloc", "__asan_report_load1_noabort", "asancol_report_load1"} - set(names)
+    expect((odd, asked_for), ([], set()), "names")
     needed = run(["readelf", "-d", PRELOADED], folder).stdout.decode()
     libraries = {it.split("[")[1].split("]")[0] for it in needed.splitlines() if "(NEEDED)" in it}
     expect(libraries <= {"libc.so.6", "ld-linux-x86-64.so.2"}, True, f"{libraries}")

@@ -8,6 +8,7 @@
 #include <stdbool.h>
 #include <stddef.h>
 
+#include "plugin/plugin.h"
 #include "wrapper/left_out.h"
 
 /* Whether accesses to variables of functions that have returned are to be found (taken_out.h). */
@@ -17,7 +18,9 @@ enum use_after_return { USE_AFTER_RETURN_NEVER, USE_AFTER_RETURN_RUNTIME, USE_AF
 #define USE_AFTER_RETURN_OF_GCC "asan-use-after-return="
 
 /* Where the shadow begins, at the end of a flag: another processor has it elsewhere (target.h). */
-#define SHADOW_HERE "0x7fff8000"
+#define SHADOW_HERE TEXT_OF_NUMBER(SHADOW_BEGINS)
+#define TEXT_OF_NUMBER(number) TEXT_OF_WORD(number)
+#define TEXT_OF_WORD(word) #word
 
 struct flags {
     const char *const *items;

@@ -11,6 +11,7 @@
 #include "common/hash.h"
 #include "common/must.h"
 #include "common/text.h"
+#include "plugin/plugin.h"
 #include "wrapper/arguments.h"
 #include "wrapper/loops.h"
 #include "wrapper/plugin.h"
@@ -25,14 +26,14 @@
    gets a threshold that comes of the name, and is still so large that no function reaches it. */
 static void add_own_number(struct strings *line, const struct job *job)
 {
-    enum { LARGE = 1 << 30 };
     const struct request *request = &job->request;
     const struct names *sources = &request->inputs.sources;
     char *word;
     if (job->compiler->own_number == NULL || request->is_all || sources->count == 0)
         return;
     const char *name = request->link.output != NULL ? request->link.output : sources->names[0];
-    if (asprintf(&word, "%s%u", job->compiler->own_number, LARGE + hash_of(name, strlen(name)) % LARGE) < 0)
+    uint32_t number = PLUGIN_NO_CALLS + hash_of(name, strlen(name)) % PLUGIN_NO_CALLS;
+    if (asprintf(&word, "%s%u", job->compiler->own_number, number) < 0)
         no_memory();
     strings_add(line, "--param");
     strings_add(line, word);
