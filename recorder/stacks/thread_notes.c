@@ -37,16 +37,23 @@ static void note_system_number(unsigned number, pid_t answer)
     atomic_store(&notes[number].system_number, answer > 0 ? (uint32_t)answer : UINT32_MAX);
 }
 
-static void copy_name(_Atomic uint64_t to[NAME_WORDS], const uint64_t from[NAME_WORDS])
+/* Who changes a name copies it after that, so the last one to store here has seen the last change: a name is torn for a
+   moment at most. */
+static void copy_name(_Atomic uint64_t to[NAME_WORDS], const _Atomic uint64_t from[NAME_WORDS])
 {
-    for (int i = 0; i < NAME_WORDS; i++)
-        atomic_store(&to[i], from[i]);
+    for (int i = 0; i < NAME_WORDS; i++) {
+        uint64_t word;
+        do {
+            word = atomic_load(&from[i]);
+            atomic_store(&to[i], word);
+        } while (atomic_load(&from[i]) != word);
+    }
 }
 
-static void note_name(unsigned number, const uint64_t name[NAME_WORDS])
+static void note_name(unsigned number, const struct own_notes *of)
 {
     if (number < THREAD_UNKNOWN)
-        copy_name(notes[number].name, name);
+        copy_name(notes[number].name, of->name);
 }
 
 void thread_begins(unsigned number)
@@ -54,11 +61,7 @@ void thread_begins(unsigned number)
     if (number != THREAD_UNKNOWN)
         note_system_number(number, system_gettid());
     atomic_store(&own_notes.number, number);
-    uint64_t name[NAME_WORDS];
-    for (int i = 0; i < NAME_WORDS; i++)
-        name[i] = atomic_load(&own_notes.name[i]);
-    if (name[0] != 0)
-        note_name(number, name);
+    note_name(number, &own_notes);
 }
 
 void thread_is_alone(int process)
@@ -74,18 +77,23 @@ struct thread_note thread_note(unsigned number)
         return now;
     now.created = atomic_load(&notes[number].created);
     now.system_number = atomic_load(&notes[number].system_number);
-    for (int i = 0; i < NAME_WORDS; i++)
-        now.name[i] = atomic_load(&notes[number].name[i]);
     return now;
+}
+
+void thread_put_name(unsigned number, void *to)
+{
+    if (number < THREAD_UNKNOWN)
+        copy_name(to, notes[number].name);
 }
 
 unsigned thread_named(uintptr_t thread, const uint64_t name[NAME_WORDS])
 {
     uintptr_t distance = (uintptr_t)&own_notes - PROCESSOR_THREAD(library_control_size());
     struct own_notes *of = thread != 0 ? (struct own_notes *)(thread + distance) : &own_notes;
-    copy_name(of->name, name);
+    for (int i = 0; i < NAME_WORDS; i++)
+        atomic_store(&of->name[i], name[i]);
     /* After that: whoever begins meanwhile looks for a name once it has its number. */
     unsigned number = atomic_load(&of->number);
-    note_name(number, name);
+    note_name(number, of);
     return number;
 }

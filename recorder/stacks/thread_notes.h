@@ -3,8 +3,8 @@
 
    Called: thread_is_first by start/start.c; thread_create by process/threads.c in the thread that calls
    pthread_create, and thread_begins there in the new one; thread_is_alone by process/process.c, in a forked child;
-   thread_named by stream/thread_list.c, and thread_note by that and stream/side.c: in any thread, also in a handler.
-   thread_number by any file. No lock: each word of a note is atomic. */
+   thread_named and thread_note by stream/thread_list.c, and thread_put_name by that and stream/side.c: in any thread,
+   also in a handler. thread_number by any file. No lock: each word of a note is atomic. */
 #ifndef ASANCOL_THREAD_NOTES_H
 #define ASANCOL_THREAD_NOTES_H
 
@@ -34,7 +34,6 @@ static inline unsigned thread_number(void)
 struct thread_note {
     uint64_t created;       /* the call site, with the thread that made it (stacks.h) */
     uint32_t system_number; /* UINT32_MAX if the system does not say it */
-    uint64_t name[NAME_WORDS];
 };
 
 /* In the first thread, at the start. */
@@ -47,6 +46,9 @@ void thread_begins(unsigned number);
 void thread_is_alone(int process);
 /* A copy of the notes on a thread. */
 struct thread_note thread_note(unsigned number);
+/* Puts its name into these words (NAME_WORDS), which others may write just now with this; zeros: it has none. Who has
+   given it another one has to put that there too. */
+void thread_put_name(unsigned number, void *to);
 /* Answers the number of a thread by its pthread_t, or of this one by 0. If it has none yet, it will have the name when
    it has. */
 unsigned thread_named(uintptr_t thread, const uint64_t name[NAME_WORDS]);

@@ -24,11 +24,6 @@
 enum { RECENT = 1 << 10 };
 static AS_TABLE _Atomic uint64_t recent[RECENT];
 
-void faults_are_cut(void)
-{
-    list_forget_backed(list_newest());
-}
-
 void faults_begin(unsigned char *bytes, unsigned window)
 {
     if (atomic_load(&list_newest()->taken) != 0) {

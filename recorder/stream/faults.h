@@ -2,12 +2,12 @@
    the block or the variable that is nearest. An index there has for each event the number of its fault. So a loop over
    bad bytes is one fault, and good ones cost nothing.
 
-   Called: faults_begin by opening.c and faults_are_cut by keeping.c, in any thread, also in a handler, with the
-   stream's lock, or before there is a stream (opening.h); fault_begin and fault_end by watched.c and findings.c,
-   fault_of and fault_note by watched.c, in the thread of the bad access or free, also in a handler, with or without the
-   allocator's lock; fault_key there by process/showing.c, without; fault_note_last by process/signals.c, in a handler.
-   All but the first two take no lock, only atomics; but a side file may have to get room on the disk, and then
-   side_back takes the stream's for a moment. Nothing is allocated. */
+   Called: faults_begin by opening.c, in any thread, also in a handler, with the stream's lock, or before there is a
+   stream (opening.h); fault_begin and fault_end by watched.c and findings.c, fault_of and fault_note by watched.c, in
+   the thread of the bad access or free, also in a handler, with or without the allocator's lock; fault_key there by
+   process/showing.c, without; fault_note_last by process/signals.c, in a handler. All but the first take no lock, only
+   atomics; but a side file may have to get room on the disk, and then side_back takes the stream's for a moment.
+   Nothing is allocated. */
 #ifndef ASANCOL_FAULTS_H
 #define ASANCOL_FAULTS_H
 
@@ -18,8 +18,6 @@
 
 /* Faults of the stream in this window are noted in these bytes (side.h). It is the newest. */
 void faults_begin(unsigned char *bytes, unsigned window);
-/* The side file was cut after what it has. */
-void faults_are_cut(void);
 /* A bad access or free is being noted from here on, and has an event now, or none in this window. The first is before
    the system is called: if that ends the process, who reads the memory knows that something is missing. */
 void fault_begin(unsigned window);

@@ -4,7 +4,6 @@
 
 #include "base/digits.h"
 #include "base/say.h"
-#include "stream/faults.h"
 #include "stream/held.h"
 #include "stream/holes.h"
 #include "stream/locked.h"
@@ -55,15 +54,11 @@ void tail_trim(uint64_t end, enum ending ending)
 {
     if (locked.has_side)
         side_end_modules(locked.generation);
-    uint64_t side_end = side_length();
-    /* No thread that is late may store past the end of a file. */
+    /* No thread that is late may store past the end of a file. What stands beside it keeps its length: threads that
+       have no place yet are in the middle of stacks and faults there, and go on with them. */
     if (ending == ENDING_SEGMENT && is_file())
         tail_leave();
     output_trim(&locked.trace, length_to(end));
-    if (!locked.has_side)
-        return;
-    output_trim(&locked.side, side_end);
-    faults_are_cut();
 }
 
 /* A recording that ends early. */

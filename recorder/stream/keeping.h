@@ -27,7 +27,7 @@ void tail_put(uint64_t offset, enum finish finish);
 void tail_take_close_away(void);
 /* Puts the close after a record that is not written yet: once it is, the stream ends there. */
 void tail_follow(uint64_t end);
-/* Cuts the files after the last record or the close, and the last fault. */
+/* Cuts the trace after the last record or the close. */
 void tail_trim(uint64_t end, enum ending ending);
 /* A late store, into a stream that has ended, meets plain memory. */
 void tail_leave(void);

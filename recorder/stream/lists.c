@@ -25,7 +25,7 @@ struct list *list_newest(void)
     return atomic_load(&newest);
 }
 
-void list_forget_backed(struct list *list)
+static void forget_backed(struct list *list)
 {
     for (size_t i = 0; i < sizeof list->backed / sizeof *list->backed; i++)
         atomic_store(&list->backed[i], 0);
@@ -39,7 +39,7 @@ void list_begin(unsigned char *bytes, unsigned window)
     atomic_store(&list->taken_words, 1);
     atomic_store(&list->number, ++begun);
     atomic_store(&list->bytes, bytes);
-    list_forget_backed(list);
+    forget_backed(list);
     atomic_store(&newest, list);
 }
 

@@ -1,11 +1,11 @@
 /* What lies beside the stream: a list of faults, one of threads, and stacks and texts. Each window of the stream has
    its own.
 
-   Called: list_begin and list_forget_backed by faults.c, in any thread, also in a handler, with the stream's lock, or
-   before there is a stream; the rest by faults.c, fault_list.c, findings.c, near.c, test_name.c and thread_list.c, in
-   any thread, also in a handler, with or without the allocator's lock. No lock: the counts are atomic, and a thread
-   fills what it has counted for itself. But list_back, and who takes words or puts a text or a stack by it, may take
-   the stream's for a moment, to get room on the disk. */
+   Called: list_begin by faults.c, in any thread, also in a handler, with the stream's lock, or before there is a
+   stream; the rest by faults.c, fault_list.c, findings.c, near.c, test_name.c and thread_list.c, in any thread, also in
+   a handler, with or without the allocator's lock. No lock: the counts are atomic, and a thread fills what it has
+   counted for itself. But list_back, and who takes words or puts a text or a stack by it, may take the stream's for a
+   moment, to get room on the disk. */
 #ifndef ASANCOL_LISTS_H
 #define ASANCOL_LISTS_H
 
@@ -38,8 +38,6 @@ unsigned list_window(const struct list *list);
 struct list *list_newest(void);
 /* The list of this window begins, and is the newest. */
 void list_begin(unsigned char *bytes, unsigned window);
-/* What the side file had beyond its end is gone. */
-void list_forget_backed(struct list *list);
 
 unsigned char *list_bytes(const struct list *list);
 /* Whether a part of the side file has memory. */

@@ -220,16 +220,6 @@ bool side_has_news(void)
     return word_at(&side->fault_count) != 0 || has_ended_badly || lacks_something;
 }
 
-uint64_t side_length(void)
-{
-    const struct side *side = side_now();
-    uint32_t stack_words = side != NULL ? word_at(&side->stack_words) : 0;
-    uint32_t faults = side != NULL ? word_at(&side->fault_count) : 0;
-    if (stack_words != 0)
-        return SIDE_STACKS_AT + stack_words * sizeof(uint64_t);
-    return faults != 0 ? SIDE_FAULTS_AT + faults * sizeof(struct side_fault) : SIDE_INDEX;
-}
-
 /* Modules. */
 
 void side_write_modules(void)

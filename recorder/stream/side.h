@@ -54,8 +54,6 @@ _Atomic uint64_t *side_begin_calls(bool for_start);
 void side_end_calls(_Atomic uint64_t *calls);
 /* Whether the hub is to know of anything that no event says. (held.c, locked) */
 bool side_has_news(void);
-/* Up to where it has something. (keeping.c, locked) */
-uint64_t side_length(void);
 /* Notes the modules, with the build id of each and the unchecked code, if there are others than were noted. (side.c,
    locked) */
 void side_write_modules(void);

@@ -45,26 +45,15 @@ static uint32_t take_thread(struct list *list, unsigned number, bool *is_new)
     return at < SIDE_THREADS ? at + 1 : SIDE_NO_THREAD;
 }
 
-static void put_name(struct side_thread *entry, const uint64_t *name)
-{
-    _Atomic uint64_t *words = (_Atomic uint64_t *)entry->name;
-    for (int i = 0; i < NAME_WORDS; i++)
-        atomic_store(&words[i], name[i]);
-}
-
 /* Fills the entry of a thread; its system number goes last, by which it is whole. */
 static void fill_thread(struct list *list, uint32_t at, unsigned number, uint32_t creator)
 {
     struct side_thread *entry = thread_at(list, at);
-    struct thread_note note, again = thread_note(number);
-    entry->created = call_site_address(again.created);
-    entry->created_stack = list_put_stack(list, again.created);
+    struct thread_note note = thread_note(number);
+    entry->created = call_site_address(note.created);
+    entry->created_stack = list_put_stack(list, note.created);
     entry->creator = creator;
-    do { /* who gives it another name meanwhile may not have seen this entry */
-        note = again;
-        put_name(entry, note.name);
-        again = thread_note(number);
-    } while (memcmp(note.name, again.name, sizeof note.name) != 0);
+    thread_put_name(number, entry->name);
     atomic_store((_Atomic uint32_t *)&entry->system_number, note.system_number);
 }
 
@@ -94,5 +83,5 @@ void list_name_thread(uintptr_t thread, const char *name)
         return;
     uint32_t at = find_thread(list, number, false, &is_new);
     if (at < SIDE_THREADS)
-        put_name(thread_at(list, at), words);
+        thread_put_name(number, thread_at(list, at)->name);
 }

@@ -234,7 +234,7 @@ static void *_Atomic mailbox[THREADS];
 static void *exchange(void *number)
 {
     unsigned state = (unsigned)(uintptr_t)number * 7919 + 1;
-    for (int i = 0; i < 3000; i++) {
+    for (int i = 0; i < 1000; i++) {
         state = state * 1103515245 + 12345;
         char *p = malloc(state / 65536 % 100 + 8);
         for (int j = 0; j < 8; j++)
@@ -632,6 +632,58 @@ static void execs_in_vain(void)
     fault();
 }
 
+static __attribute__((noinline)) void store_below(char *at, unsigned path);
+
+static __attribute__((noinline)) void store_left(char *at, unsigned path)
+{
+    store_below(at, path);
+    sink = 1;
+}
+
+static __attribute__((noinline)) void store_right(char *at, unsigned path)
+{
+    store_below(at, path);
+    sink = 2;
+}
+
+/* By a call for each bit of the path but the first, so each path has a stack of its own. */
+static void store_below(char *at, unsigned path)
+{
+    if (path == 1)
+        *at = 1;
+    else if (path % 2 == 0)
+        store_left(at, path / 2);
+    else
+        store_right(at, path / 2);
+}
+
+static _Atomic int has_tried_all;
+
+static void *stores_by_many_stacks(void *block)
+{
+    for (unsigned path = 1 << 16; !has_tried_all; path++)
+        store_below((char *)block + 8, path);
+    return NULL;
+}
+
+/* A file that is no program: the system says so late. */
+static void execs_in_vain_beside_faults(void)
+{
+    pthread_t thread;
+    char *argv[] = {"no.program", NULL}, *block = hide(malloc(8));
+    if (pthread_create(&thread, NULL, stores_by_many_stacks, block) != 0)
+        fail("pthread_create");
+    for (int i = 0; i < 1000; i++) {
+        execv("./no.program", argv);
+        if (errno != ENOEXEC)
+            fail("execv");
+        usleep(100);
+    }
+    has_tried_all = 1;
+    pthread_join(thread, NULL);
+    free(block);
+}
+
 /* By then the limit of events is long past. */
 static void execs_after_much(void)
 {
@@ -798,7 +850,7 @@ static void twenty_million_events(void)
 static void many_frees(void)
 {
     char *p = hide(malloc(64));
-    for (int i = 0; i < 3000; i++)
+    for (int i = 0; i < 1000; i++)
         free(hide(malloc(1000)));
     free(p);
     for (int i = 0; i < 10; i++)
@@ -908,6 +960,7 @@ static const struct {
     LIFE(vforks),
     LIFE(execs),
     LIFE(execs_in_vain),
+    LIFE(execs_in_vain_beside_faults),
     LIFE(spawns),
     LIFE(closes_all),
     LIFE(counts_descriptors),

@@ -131,6 +131,15 @@ def check_exec(suite, folder, program):
         expect((status, texts, end.split()[0]), (1, [MARK], "closed"), name)
 
 
+def check_exec_in_vain_beside_faults(suite, folder, program):
+    """Another thread is in the middle of faults, again and again. The recording goes on."""
+    write(folder, no_program="neither\n")
+    os.chmod(f"{folder}/no.program", 0o755)
+    ran = run([program, "execs_in_vain_beside_faults"], folder, ASANCOL_TRACE="t.trace", ASANCOL_WHERE="1")
+    known = "other threads went on while an exec was tried"
+    expect((ran.returncode, [line for line in ran.stderr.decode().splitlines() if known not in line]), (0, []))
+
+
 def check_other_name(suite, folder, program):
     """Where a trace went is said if an earlier run has left one: by the first process, and not by those after it."""
 
@@ -278,6 +287,7 @@ def tests(suite, compiler):
     suite.long_test(f"{compiler} fork in a thread", check_fork_in_a_thread, program)
     suite.test(f"{compiler} fork in handlers", check_fork_in_handlers, program)
     suite.test(f"{compiler} exec", check_exec, program)
+    suite.test(f"{compiler} exec in vain beside faults", check_exec_in_vain_beside_faults, program)
     suite.test(f"{compiler} name that is taken", check_other_name, program)
     for name in ("loses_its_trace", "loses_its_trace_at_the_end"):
         for settings in ({}, {"ASANCOL_WHERE": "1"}):

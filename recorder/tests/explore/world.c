@@ -143,7 +143,6 @@ static int no_clock(int clock, struct timespec *now)
     return 0;
 }
 struct library library = {.clock_gettime = no_clock, .__libc_single_threaded = &is_never_alone};
-void faults_are_cut(void) {}
 bool recorder_has_checks(void) { return true; }
 bool recorder_has_begun(void) { return true; }
 bool recorder_is_own_process(void) { return world.child != RAW_CHILD; }
@@ -195,8 +194,9 @@ void side_note_left_good(void) {}
 void side_note_finding_lost(void) {}
 void finding_note_call(const struct wrong_call *wrong) { (void)wrong; }
 void side_note_skipped(uint64_t what) { (void)what; }
-void side_note_stated(void) {}
-uint64_t side_length(void) { return 0; }
+void side_note_stated(void)
+{
+}
 void side_note_ending(enum ending ending, int number, uint64_t events)
 {
     (void)number, (void)events;

@@ -33,7 +33,6 @@ enum { THREADS = 4, RECORDS = 40000, LIMIT = 30000 };
 
 /* What the other parts of the recorder would do. */
 
-void faults_are_cut(void) {}
 void faults_begin(unsigned char *bytes, unsigned window) { (void)bytes, (void)window; }
 uint32_t fault_of(unsigned window, struct access *access, unsigned width, uint64_t address)
 {
@@ -82,8 +81,9 @@ void finding_note_call(const struct wrong_call *wrong)
     (void)wrong;
 }
 void side_note_skipped(uint64_t what) { (void)what; }
-void side_note_stated(void) {}
-uint64_t side_length(void) { return 0; }
+void side_note_stated(void)
+{
+}
 void side_note_ending(enum ending ending, int number, uint64_t events) { (void)ending, (void)number, (void)events; }
 void side_note_late_signal(int number) { (void)number; }
 void side_note_left_out(void) {}
