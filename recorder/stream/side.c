@@ -518,18 +518,10 @@ void side_note_last(const struct side_last *last)
 /* Whoever names the thread notes that first, and then looks for the memory: one of the two sees the other. */
 void side_note_first_name(void)
 {
-    struct thread_note note, again = thread_note(0);
     atomic_thread_fence(memory_order_seq_cst);
     struct side *side = side_now();
-    if (side == NULL)
-        return;
-    _Atomic uint64_t *words = (_Atomic uint64_t *)beside_threads_in(side)->first_name;
-    do {
-        note = again;
-        for (int i = 0; i < NAME_WORDS; i++)
-            atomic_store(&words[i], note.name[i]);
-        again = thread_note(0);
-    } while (memcmp(note.name, again.name, sizeof note.name) != 0);
+    if (side != NULL)
+        thread_put_name(0, beside_threads_in(side)->first_name);
 }
 
 void side_note_halted(enum side_halted how)
