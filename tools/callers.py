@@ -15,7 +15,7 @@ from heads import Finding, paragraphs_of, read
 HEADER = re.compile(r"recorder/\w+/[\w-]+\.hp?p?")
 EXACT = re.compile(r"recorder/(?:base|shadow|stacks|stream|heap)/(?!aarch64|x86_64|processor|system)\w+\.h")
 # Sources that are linked into programs, where the callers are.
-LINKED = re.compile(r"recorder/(?!tests/|out/|wrapper/|plugin/|loops/|cxx/)\w+/\w+\.(?:c|h|def)")
+LINKED = re.compile(r"recorder/(?!tests/|out/|wrapper/|plugin/|clang/|cxx/)\w+/\w+\.(?:c|h|def)")
 COMMENT = re.compile(r"/\*.*?\*/", re.S)
 FUNCTION = re.compile(r"^(?!return |typedef |else )(?:[A-Za-z_]\w*[ *]+)+([a-z_]\w*)\(", re.M)
 USE = re.compile(r"(?<![.>\w])(\w+)\(|, (\w+),|= (\w+),")

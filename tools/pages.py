@@ -31,6 +31,7 @@ ELSEWHERE = {
     "malloc.h",
     "__SANITIZE_ADDRESS__",
     "__asan_report_store4_noabort",
+    "asancol_report_load4",
     "RTLD_DEEPBIND",
     "LD_PRELOAD",
     "ether_aton_r",

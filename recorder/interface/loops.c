@@ -1,5 +1,5 @@
 /* The test of a loop, or of a strip of it, that Clang's code calls where asancol's plugin has made a copy of the loop
-   without checks (loops/versions.cpp). */
+   without checks (clang/versions.cpp). */
 #include "interface/loops.h"
 
 #include <stddef.h>

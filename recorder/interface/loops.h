@@ -1,4 +1,4 @@
-/* What the copies of loops (loops/versions.cpp) ask for.
+/* What the copies of loops (clang/versions.cpp) ask for.
 
    Called: by compiled code, in any thread, also in a signal handler. Lock: none: the tests only read the shadow and
    has_threads, and Clang is told that they touch nothing of the program's (versions.cpp). An access in the rest of a

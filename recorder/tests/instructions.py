@@ -22,6 +22,7 @@ from typing import Callable, Dict, List, NamedTuple, Optional, Tuple
 sys.path.insert(0, f"{os.path.dirname(os.path.realpath(__file__))}/../..")  # where `testing` is
 
 import bench
+from cheaper import is_given
 from support import CC, CXX, TESTS, Compiler, Failure, build, compilers, has_plugin_for, run
 
 FILE = f"{TESTS}/instructions.txt"
@@ -161,6 +162,8 @@ def chosen(versions: Dict[str, str], is_update: bool) -> List[Compiler]:
         version = version_of(compiler)
         if compiler.name == "gcc" and not has_plugin_for(CC, compiler):
             print("gcc: not compared, since it has no plugin; 'make recorder' makes it with Debian's gcc-12-plugin-dev")
+        elif compiler.name == "clang" and not is_given(compiler, "-O2"):
+            print("clang: not compared, since it has no plugin; 'make recorder' makes it with Debian's llvm-14-dev")
         elif not is_update and versions.get(compiler.name) != version:
             print(f"{compiler}: not compared, since it is '{version}', and instructions.txt has figures of "
                   f"'{versions.get(compiler.name)}'")

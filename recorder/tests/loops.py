@@ -31,7 +31,7 @@ VARIES = [(r"==\d+==", "==PID=="), (r" 0x[0-9a-f]{3,8} in ", " CODE in "), (r"0x
 
 def has_loops(compiler: Compiler) -> bool:
     said = run([CC, "-###", "-O2", LOOPS, "-c", f"{TESTS}/loops/loops.c"], ".", ASANCOL_CC=compiler.name).stderr
-    return b"libasancol_loops.so" in said
+    return b"libasancol_clang_loops.so" in said
 
 
 def ran(folder: str, suite: Suite, program: str, words: Sequence[str]) -> Tuple[str, str, int]:
@@ -146,17 +146,17 @@ def check_rest(suite: Suite, folder: str, compiler: Compiler, flags: Sequence[st
 
 def check_options(_suite: Suite, folder: str, compiler: Compiler) -> None:
     """It is given where it helps, and only to a version that it was made for."""
-    def is_given(*words: str, file: bytes = b"libasancol_loops.so") -> bool:
+    def is_given(*words: str, file: bytes = b"libasancol_clang_loops.so") -> bool:
         argv = [CC, "-###", "-c", *words, f"{TESTS}/loops/loops.c"]
         said = run(argv, folder, ASANCOL_CC=compiler.name).stderr
         return file in said
     levels = [is_given(LOOPS, "-O2"), is_given(LOOPS, "-O2", "-O0"), is_given(LOOPS)]
     expect(levels, [True, False, False], "by the level")
     expect([is_given("-O2"), is_given(LOOPS, "-O2", "--asancol-all")], [False, False], "by an option")
-    limits = [is_given(ALL_LOOPS, "-O2"), is_given(ALL_LOOPS, "-O2", file=b"libasancol_all_loops.so")]
+    limits = [is_given(ALL_LOOPS, "-O2"), is_given(ALL_LOOPS, "-O2", file=b"libasancol_clang_all_loops.so")]
     expect(limits, [False, True], "without a limit, by another name")
     for path in glob.glob(f"{RECORDER}/*"):
-        if not re.search(r"libasancol_loops_\d+\.so$", path):
+        if not re.search(r"libasancol_clang_\d+\.so$", path):
             os.symlink(path, f"{folder}/{os.path.basename(path)}")
     os.unlink(f"{folder}/asancol-cc")
     os.link(f"{RECORDER}/asancol-cc", f"{folder}/asancol-cc")
@@ -172,32 +172,42 @@ def check_broken(_suite: Suite, folder: str, compiler: Compiler) -> None:
     """Passes that can't be loaded break no build."""
     for path in glob.glob(f"{RECORDER}/*"):
         os.symlink(path, f"{folder}/{os.path.basename(path)}")
-    for path in glob.glob(f"{folder}/libasancol_loops*"):
+    for path in glob.glob(f"{folder}/libasancol_clang*"):
         os.unlink(path)
-        if path.endswith("loops.so"):
+        if not re.search(r"_\d+\.so$", path):
             os.link(f"{RECORDER}/{os.path.basename(path)}", path)
-        else:
-            with open(path, "w", encoding="utf-8"):
-                pass
     os.unlink(f"{folder}/asancol-cc")
     os.link(f"{RECORDER}/asancol-cc", f"{folder}/asancol-cc")
-    def compiles(name: str, *words: str) -> Tuple[int, bytes]:
-        argv = [f"{folder}/asancol-cc", LOOPS, "-O2", *words, "-c", f"{TESTS}/loops/loops.c"]
+    def compiles(name: str, *words: str, option: str = LOOPS) -> Tuple[int, bytes]:
+        argv = [f"{folder}/asancol-cc", option, "-O2", *words, "-c", f"{TESTS}/loops/loops.c"]
         made = run(argv, folder, ASANCOL_CC=name)
         return made.returncode, made.stderr
+    for major in (*range(13, 23), 39):
+        write_empty(f"{folder}/libasancol_clang_{major}.so")
     expect(compiles(compiler.name), (0, b""), "without passes")
-    with open(f"{folder}/other", "w", encoding="utf-8") as file:
-        file.write(f'#!/bin/sh\ncase "$*" in *--version*) echo clang version 39.0.1;; *) exec {compiler} "$@";; esac\n')
-    os.chmod(f"{folder}/other", 0o755)
-    expect(compiles(f"{folder}/other"), (0, b""), "another version")
-    status, said = compiles(f"{folder}/other", "-v")
-    expect((status, b"loops_39.so: not found beside" in said), (0, True), "another version, with -v")
-    os.unlink(f"{folder}/libasancol_loops.so")
-    with open(f"{folder}/libasancol_loops.so", "w", encoding="utf-8"):
+    os.unlink(f"{folder}/libasancol_clang_39.so")
+    other = f"{folder}/other"
+    for has_file, wanted in ((False, b"clang_39.so: not found beside"), (True, b"clang_39.so: whether this Clang can")):
+        with open(other, "w", encoding="utf-8") as file:
+            says = "case $* in *--version*) echo clang version 39.0.1; exit;; esac"
+            file.write(f'#!/bin/sh\n{says}\nexec {compiler} "$@"\n')
+        os.chmod(other, 0o755)
+        if has_file:
+            write_empty(f"{folder}/libasancol_clang_39.so")
+        expect(compiles(other), (0, b""), "another version")
+        status, said = compiles(other, "-v")
+        expect((status, wanted in said), (0, True), "another version, with -v")
+    for option, name in ((LOOPS, "libasancol_clang_loops.so"), ("-g", "libasancol_clang.so")):
+        os.unlink(f"{folder}/{name}")
+        write_empty(f"{folder}/{name}")
+        expect(compiles(compiler.name, option=option), (0, b""), "without a plugin")
+        status, said = compiles(compiler.name, "-v", option=option)
+        expect((status, f"{name}: it can't be loaded".encode() in said), (0, True), "without a plugin, with -v")
+
+
+def write_empty(path: str) -> None:
+    with open(path, "w", encoding="utf-8"):
         pass
-    expect(compiles(compiler.name), (0, b""), "without a plugin")
-    status, said = compiles(compiler.name, "-v")
-    expect((status, b"loops.so: it can't be loaded" in said), (0, True), "without a plugin, with -v")
 
 
 def code_of(path: str) -> int:
@@ -303,7 +313,7 @@ def check_left_out(_suite: Suite, folder: str) -> None:
     with open(f"{folder}/llvm-config", "w", encoding="utf-8") as file:
         file.write(f"#!/bin/sh\ncase $1 in --version) echo 77.1.0;; *) echo {folder}/headers;; esac\n")
     os.chmod(f"{folder}/llvm-config", 0o755)
-    product, said = f"{folder}/libasancol_loops_77.so", f"{folder}/out/loops/77/whole.said"
+    product, said = f"{folder}/libasancol_clang_77.so", f"{folder}/out/clang/77/whole.said"
     for text in ("#error one\n", "#error other\n"):
         write_headers(folder, text)
         with open(product, "w", encoding="utf-8"):
@@ -311,11 +321,11 @@ def check_left_out(_suite: Suite, folder: str) -> None:
         stamps = set()
         for _ in range(2):
             made = run(["make", "-s", "-f", f"{RECORDER}/Makefile", f"TOP={TOP}", f"LLVM_CONFIGS={folder}/llvm-config",
-                        "libasancol_loops_77.so", "libasancol_loops.so"], folder)
+                        "libasancol_clang_77.so", "libasancol_clang.so"], folder)
             of = f"{text}{made.stderr.decode()}"
-            there = [os.path.exists(it) for it in (product, f"{folder}/libasancol_loops.so")]
+            there = [os.path.exists(it) for it in (product, f"{folder}/libasancol_clang.so")]
             expect((made.returncode, there), (0, [False, True]), of)
-            expect(b"libasancol_loops_77.so is left out: whole.cpp does not compile" in made.stderr, True, of)
+            expect(b"libasancol_clang_77.so is left out: whole.cpp does not compile" in made.stderr, True, of)
             stamps.add(os.stat(said).st_mtime_ns)
         with open(said, encoding="utf-8") as file:
             expect((text.strip() in file.read(), len(stamps)), (True, 1), f"{text}: compiled once")

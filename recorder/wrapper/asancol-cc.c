@@ -18,6 +18,7 @@
 #include "wrapper/arguments.h"
 #include "wrapper/command.h"
 #include "wrapper/compiling.h"
+#include "wrapper/passes.h"
 #include "wrapper/running.h"
 #include "wrapper/say.h"
 #include "wrapper/self.h"
@@ -96,6 +97,7 @@ int main(int count, char **argv)
         job.compiler = compiler_of(job.command.items, job.command.count);
     if (job.compiler != NULL || (request->foreign == NULL && request->names_runtime))
         taken_out(&job);
+    job.passes = passes_of(&job);
     if (request->inputs.has_any)
         warn_of_unrecorded(&job);
     job.object = compiling_object(&job);

@@ -8,8 +8,8 @@
 #include <sys/wait.h>
 #include <unistd.h>
 
+#include "clang/plugin.h"
 #include "common/array.h"
-#include "loops/plugin.h"
 #include "plugin/plugin.h"
 #include "wrapper/linked.h"
 #include "wrapper/view.h"
@@ -87,8 +87,9 @@ static const struct compiler compilers[] = {
         .has_driver = true,
         .header = "cold_reports.h",
         .intrinsics = "clang_intrinsics.h",
-        .loops = LOOPS_FILE,
-        .all_loops = ALL_LOOPS_FILE,
+        .passes = CLANG_FILE,
+        .loops = CLANG_LOOPS_FILE,
+        .all_loops = CLANG_ALL_LOOPS_FILE,
     },
 };
 
@@ -143,13 +144,20 @@ static const struct compiler *compiler_of_program(const char *path)
     return found;
 }
 
+const char *compiler_version(const char *const *command, size_t count)
+{
+    static char text[4096];
+    if (text[0] == 0)
+        compiler_say(command, count, "--version", text, sizeof text);
+    return text;
+}
+
 const struct compiler *compiler_of(const char *const *command, size_t count)
 {
-    char text[4096];
     const struct compiler *found = compiler_of_program(command[0]);
     if (found != NULL)
         return found;
-    compiler_say(command, count, "--version", text, sizeof text);
+    const char *text = compiler_version(command, count);
     for (size_t i = 0; i < COUNT(compilers); i++)
         if (strstr(text, compilers[i].says) != NULL)
             return &compilers[i];

@@ -1,7 +1,7 @@
 /* The compilers that are known, and what each of them is given so that it puts in its checks.
 
-   Called: compiler_of by asancol-cc.c, compiler_say by loops.c, plugin.c and target.c, in the one thread of the
-   wrapper; no lock. */
+   Called: compiler_of by asancol-cc.c, compiler_version by passes.c, compiler_say by plugin.c and target.c, in the one
+   thread of the wrapper; no lock. */
 #ifndef ASANCOL_COMPILERS_H
 #define ASANCOL_COMPILERS_H
 
@@ -34,13 +34,14 @@ struct compiler {
     struct flags flags;     /* before the caller's arguments: its inline check, and a call if an access is bad by it */
     struct flags all_flags; /* or a call before each access */
     struct flags use_after_return[USES_AFTER_RETURN]; /* with these */
-    struct flags after;     /* after the caller's arguments, with inline checks */
+    struct flags after;     /* after the caller's arguments, with inline checks that are not made cheaper */
     struct flags last;      /* after them in any case, for compilations: none of them takes these back */
-    const char *header;     /* a file of the recorder's that it includes after the caller's, the same; or null */
+    const char *header;     /* a file of the recorder's that it includes there, with such checks; or null */
     const char *intrinsics; /* and one in any case, which makes accesses of what its checks do not know; or null */
     const char *own_number; /* before a number that makes the noted switches of each object its own, or null */
     const char *plugin;     /* a file of the recorder's that may be there, and adds checks (plugin.c); or null */
-    const char *loops;      /* one that may be there, and tests loops as a whole (loops.c); or null */
+    const char *passes;     /* one that may be there, and makes checks cheaper (passes.c); or null */
+    const char *loops;      /* the same, and it tests loops as a whole */
     const char *all_loops;  /* the same, whatever code that adds */
     struct flags without_plugin; /* what C and C++ are compiled with if it is not */
     bool has_driver;        /* a program that runs it, and hands it arguments after -Xclang without a look at them */
@@ -54,6 +55,8 @@ struct compiler {
 /* The compiler that a command runs, of which the first word is a path. It asks the compiler: a name says little, as
    that of a script, of ccache, or of a link. Null: it is none of these. */
 const struct compiler *compiler_of(const char *const *command, size_t count);
+/* What the one command of a job says of its version. It is asked once. */
+const char *compiler_version(const char *const *command, size_t count);
 /* The start of what a command says of itself by such an option. */
 void compiler_say(const char *const *command, size_t count, const char *option, char *text, size_t room);
 

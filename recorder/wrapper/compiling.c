@@ -13,7 +13,7 @@
 #include "common/text.h"
 #include "plugin/plugin.h"
 #include "wrapper/arguments.h"
-#include "wrapper/loops.h"
+#include "wrapper/passes.h"
 #include "wrapper/plugin.h"
 #include "wrapper/say.h"
 #include "wrapper/self.h"
@@ -69,13 +69,12 @@ static void add_plugin(struct strings *line, const struct job *job)
     strings_add(line, word);
 }
 
-static void add_loops(struct strings *line, const struct job *job)
+static void add_passes(struct strings *line, const struct job *job)
 {
-    const char *path = job->request.inputs.has_compiled ? loops_of(job) : NULL;
     char *word;
-    if (path == NULL)
+    if (job->passes == NULL)
         return;
-    if (asprintf(&word, "-fpass-plugin=%s", path) < 0)
+    if (asprintf(&word, "-fpass-plugin=%s", job->passes) < 0)
         no_memory();
     strings_add(line, word);
 }
@@ -119,7 +118,7 @@ static void add_checks(struct strings *line, const struct job *job)
     strings_add_all(line, returns->items, returns->count);
     add_own_number(line, job);
     add_plugin(line, job);
-    add_loops(line, job);
+    add_passes(line, job);
     for (size_t i = 0; compiler->has_driver && i < job->request.kept.count; i++) {
         strings_add(line, "-Xclang");
         strings_add(line, job->request.kept.names[i]);
@@ -212,7 +211,7 @@ void compiling_add_after(struct strings *line, const struct job *job)
     bool has_headers = request->inputs.has_text && !request->is_shown;
     if (compiler->intrinsics != NULL && has_headers)
         add_file(line, "-include", compiler->intrinsics);
-    if (request->is_all || !request->inputs.has_compiled)
+    if (request->is_all || !request->inputs.has_compiled || makes_checks_cheaper(job))
         return;
     strings_add_all(line, compiler->after.items, compiler->after.count);
     if (compiler->header != NULL && has_headers)

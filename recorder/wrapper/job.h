@@ -19,6 +19,7 @@ struct job {
     const struct target *target;     /* the processor that it is for; null: this one */
     struct request request;
     char **arguments; /* of the caller's, with a null at the end */
+    const char *passes; /* the plugin that Clang is given (passes.h); or null */
     char *object;     /* that will ask for what the recorder has of the library of C++ (checked_names.h); or null */
     bool takes_part;  /* something is compiled or linked that can be recorded */
     bool links;

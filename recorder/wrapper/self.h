@@ -1,7 +1,7 @@
 /* Where the wrapper is, and what lies beside it.
 
    Called: self_path by command.c, self_set_folder by asancol-cc.c, self_run by taken.c; the others by whoever needs
-   a file of the recorder's (compiling.c, linking.c, plugin.c, loops.c and others); in the one thread of the wrapper;
+   a file of the recorder's (compiling.c, linking.c, plugin.c, passes.c and others); in the one thread of the wrapper;
    no lock. */
 #ifndef ASANCOL_SELF_H
 #define ASANCOL_SELF_H

@@ -1,7 +1,7 @@
 /* Files that the wrappers of compilers look at, mapped.
 
    Called: view_find by taken.c, view_has_text and view_names by linked.c, view_has_constant by whoever looks at a
-   compiler (compilers.c, loops.c, plugin.c, target.c), the rest by whoever looks into a file, in the one thread of the
+   compiler (compilers.c, passes.c, plugin.c, target.c), the rest by whoever looks into a file, in the one thread of the
    wrapper; no lock. */
 #ifndef ASANCOL_VIEW_H
 #define ASANCOL_VIEW_H

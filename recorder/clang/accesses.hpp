@@ -1,9 +1,9 @@
 /* What a loop accesses, so far as it is known before its first round.
 
-   Called: by versions.cpp and passes.cpp, in the compiler's one thread, without a lock: it reads LLVM's code, and adds
+   Called: by versions.cpp and loops.cpp, in the compiler's one thread, without a lock: it reads LLVM's code, and adds
    what LLVM needs for it (SCEV). */
-#ifndef ASANCOL_LOOPS_ACCESSES_HPP
-#define ASANCOL_LOOPS_ACCESSES_HPP
+#ifndef ASANCOL_CLANG_ACCESSES_HPP
+#define ASANCOL_CLANG_ACCESSES_HPP
 
 #include <llvm/ADT/SmallVector.h>
 #include <llvm/Analysis/LoopInfo.h>

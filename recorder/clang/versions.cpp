@@ -12,7 +12,7 @@
    so that its reports are the same. The rest is only for what another thread, or a signal handler, makes bad meanwhile:
    its checks are calls, which take less code.
    If there is to be one strip, `first` leads to `good`, and `done` to the exit: the test says no to a longer loop. */
-#include "loops/versions.hpp"
+#include "clang/versions.hpp"
 
 #include <llvm/Analysis/ScalarEvolutionExpressions.h>
 #include <llvm/IR/MDBuilder.h>
@@ -23,7 +23,7 @@
 #include <llvm/Transforms/Utils/LoopUtils.h>
 
 #include "interface/loops.h"
-#include "loops/llvm.hpp"
+#include "clang/llvm.hpp"
 
 using namespace llvm;
 

@@ -1,22 +1,19 @@
-/* The passes that LLVM gets, for one of its major versions. plugin.c loads this into a Clang that has that version.
+/* The passes that test loops as a whole.
 
    AddressSanitizer's pass comes last, or just before loops are vectorized (-sanitizer-early-opt-ep). Where it comes
    last, a copy is made before loops are vectorized, so that it is, too. The vectorizer passes on few marks, such as
    groups of accesses: our own group becomes the mark that AddressSanitizer's pass heeds just before that comes. Two
-   accesses that become one are in a group only if both were, so a mark that is lost costs a check, and no report.
+   accesses that become one are in a group only if both were, so a mark that is lost costs a check, and no report. */
+#include "clang/loops.hpp"
 
-   Called: by LLVM, in the compiler's one thread; no lock. */
 #include <llvm/Analysis/VectorUtils.h>
 #include <llvm/Config/llvm-config.h>
 #include <llvm/IR/InstIterator.h>
 #include <llvm/IR/Module.h>
-#include <llvm/Passes/PassBuilder.h>
-#include <llvm/Support/CommandLine.h>
 
-#include "loops/accesses.hpp"
-#include "loops/choice.hpp"
-#include "loops/plugin.h"
-#include "loops/versions.hpp"
+#include "clang/accesses.hpp"
+#include "clang/choice.hpp"
+#include "clang/versions.hpp"
 
 #include <memory>
 
@@ -130,16 +127,11 @@ struct turn_marks : PassInfoMixin<turn_marks> {
     }
 };
 
-bool checks_come_early()
-{
-    auto found = cl::getRegisteredOptions().find("sanitizer-early-opt-ep");
-    return found != cl::getRegisteredOptions().end() && static_cast<cl::opt<bool> *>(found->second)->getValue();
-}
+} // namespace
 
-void add_passes(PassBuilder &builder, bool has_limit)
+void add_loops(PassBuilder &builder, bool has_limit, bool is_early)
 {
     auto is_vectorized = std::make_shared<bool>(false);
-    bool is_early = checks_come_early();
 #if LLVM_VERSION_MAJOR >= 15
     if (is_early)
         builder.registerOptimizerEarlyEPCallback([has_limit](ModulePassManager &passes, auto level, auto...) {
@@ -160,10 +152,4 @@ void add_passes(PassBuilder &builder, bool has_limit)
         else if (level.getSpeedupLevel() != 0)
             passes.addPass(createModuleToFunctionPassAdaptor(version_loops(mark::UNCHECKED, has_limit)));
     });
-}
-} // namespace
-
-extern "C" void asancol_add_loops(void *builder, bool has_limit)
-{
-    add_passes(*static_cast<PassBuilder *>(builder), has_limit);
 }

@@ -1,9 +1,9 @@
 /* Makes of a loop two: one whose accesses are marked as good, which runs strip by strip as long as one test for each
    finds all that it accesses good, and the loop as it was.
 
-   Called: by passes.cpp, in the compiler's one thread, without a lock: it changes the function. */
-#ifndef ASANCOL_LOOPS_VERSIONS_HPP
-#define ASANCOL_LOOPS_VERSIONS_HPP
+   Called: by loops.cpp, in the compiler's one thread, without a lock: it changes the function. */
+#ifndef ASANCOL_CLANG_VERSIONS_HPP
+#define ASANCOL_CLANG_VERSIONS_HPP
 
 #include <functional>
 
@@ -11,7 +11,7 @@
 #include <llvm/Analysis/ScalarEvolution.h>
 #include <llvm/IR/Dominators.h>
 
-#include "loops/accesses.hpp"
+#include "clang/accesses.hpp"
 
 struct analyses {
     llvm::Function &function;

@@ -1,12 +1,19 @@
 /* What has another name, or another type, from one version of LLVM to the next.
 
-   Called: by accesses.cpp, choice.cpp and versions.cpp, in the compiler's one thread, without a lock. */
-#ifndef ASANCOL_LOOPS_LLVM_HPP
-#define ASANCOL_LOOPS_LLVM_HPP
+   Called: by accesses.cpp, checks.cpp, choice.cpp and versions.cpp, in the compiler's one thread, without a lock. */
+#ifndef ASANCOL_CLANG_LLVM_HPP
+#define ASANCOL_CLANG_LLVM_HPP
 
+#include <llvm/ADT/MapVector.h>
+#if __has_include(<llvm/TargetParser/Triple.h>)
+#include <llvm/TargetParser/Triple.h>
+#else
+#include <llvm/ADT/Triple.h>
+#endif
 #include <llvm/Analysis/BlockFrequencyInfo.h>
 #include <llvm/Config/llvm-config.h>
 #include <llvm/IR/IRBuilder.h>
+#include <llvm/IR/Instructions.h>
 #include <llvm/IR/Module.h>
 #include <llvm/Transforms/Utils/ScalarEvolutionExpander.h>
 
@@ -19,6 +26,21 @@ inline llvm::SCEVExpander expander_of(llvm::Function &function, llvm::ScalarEvol
     return llvm::SCEVExpander(evolution, "asancol");
 #endif
 }
+
+inline bool begins_with(llvm::StringRef text, llvm::StringRef front)
+{
+    return text.substr(0, front.size()) == front;
+}
+
+inline bool is_for_x86_64(const llvm::Module &module)
+{
+    return llvm::Triple(module.getTargetTriple()).getArch() == llvm::Triple::x86_64;
+}
+
+/* What an address is an offset to, as collectOffset fills it in. */
+template <typename type>
+type collected(bool (llvm::GetElementPtrInst::*)(const llvm::DataLayout &, unsigned, type &, llvm::APInt &) const);
+using collected_offsets = decltype(collected(&llvm::GetElementPtrInst::collectOffset));
 
 /* Of bytes. */
 inline llvm::PointerType *pointer_type(llvm::LLVMContext &context)

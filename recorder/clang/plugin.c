@@ -2,7 +2,7 @@
    its plugin compiles nothing. It loads the passes that were made for the LLVM in this process (passes.cpp). If
    there are none, or LLVM has not all that they need, it does nothing. */
 #define _GNU_SOURCE
-#include "loops/plugin.h"
+#include "clang/plugin.h"
 
 #include <dlfcn.h>
 #include <limits.h>
@@ -11,7 +11,7 @@
 #include <stdio.h>
 #include <string.h>
 
-/* LLVM's `PassPluginLibraryInfo`, in its version 1, and in its version 2. */
+/* LLVM's `PassPluginLibraryInfo`, in its form 1, and in its form 2. */
 struct plugin {
     uint32_t interface;
     const char *name, *version;
@@ -23,10 +23,10 @@ struct plugin_2 {
     bool (*generate)(void); /* null: LLVM generates the code itself */
 };
 
-enum { OLDEST = 13, FIRST_OF_2 = 22, NEWEST = 99 };
+enum { OLDEST = 13, NEWEST = 99 };
 
-#ifndef HAS_LIMIT
-#define HAS_LIMIT true
+#ifndef TESTED_LOOPS
+#define TESTED_LOOPS LOOPS_NONE
 #endif
 
 /* The major version of LLVM, by the version of its symbols; or 0. */
@@ -53,30 +53,30 @@ static void add(void *builder)
         return;
     const char *end = strrchr(self.dli_fname, '/');
     int folder = end == NULL ? 0 : (int)(end - self.dli_fname) + 1;
-    snprintf(path, sizeof path, "%.*s" LOOPS_FILE_OF, folder, self.dli_fname, major);
+    snprintf(path, sizeof path, "%.*s" CLANG_FILE_OF, folder, self.dli_fname, major);
     void *passes = dlopen(path, RTLD_NOW | RTLD_LOCAL);
-    void (*add_loops)(void *, bool has_limit) = NULL;
+    void (*add_passes)(void *, enum tested_loops) = NULL;
     if (passes != NULL)
-        *(void **)&add_loops = dlsym(passes, ADD_LOOPS_NAME);
-    if (add_loops != NULL)
-        add_loops(builder, HAS_LIMIT);
+        *(void **)&add_passes = dlsym(passes, ADD_PASSES_NAME);
+    if (add_passes != NULL)
+        add_passes(builder, TESTED_LOOPS);
 }
 
 static struct plugin answer(void)
 {
-    return (struct plugin){1, "asancol-loops", "1", add};
+    return (struct plugin){1, "asancol", "1", add};
 }
 
 static struct plugin_2 answer_2(void)
 {
-    return (struct plugin_2){{2, "asancol-loops", "1", add}, NULL};
+    return (struct plugin_2){{2, "asancol", "1", add}, NULL};
 }
 
 /* Which of the two an LLVM takes: each wants its own. It is asked when LLVM looks for the name below, and nothing here
    may name that, or the loader would ask before all is in its place. */
 __attribute__((used)) static void (*resolve(void))(void)
 {
-    return version_of_llvm() < FIRST_OF_2 ? (void (*)(void))answer : (void (*)(void))answer_2;
+    return version_of_llvm() < LLVM_OF_FORM_2 ? (void (*)(void))answer : (void (*)(void))answer_2;
 }
 
 __attribute__((visibility("default"), ifunc("resolve"))) void llvmGetPassPluginInfo(void);

@@ -1,6 +1,6 @@
 /* A copy saves as many checks as the blocks of its accesses run: by a profile (-fprofile-use), or by the guess of LLVM
    for one call of the function, from the depth of loops and from branches. */
-#include "loops/choice.hpp"
+#include "clang/choice.hpp"
 
 #include <algorithm>
 
@@ -10,7 +10,7 @@
 #include <llvm/Transforms/Utils/LoopSimplify.h>
 #include <llvm/Transforms/Utils/LoopUtils.h>
 
-#include "loops/llvm.hpp"
+#include "clang/llvm.hpp"
 
 using namespace llvm;
 

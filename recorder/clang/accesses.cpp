@@ -1,6 +1,6 @@
 /* A loop is read into struct tested_loop: each access becomes a `range`, or is joined to one near it, by LLVM's
    expressions for what changes from round to round (SCEV). */
-#include "loops/accesses.hpp"
+#include "clang/accesses.hpp"
 
 #include <llvm/Analysis/ScalarEvolutionExpressions.h>
 #include <llvm/IR/DataLayout.h>
@@ -9,7 +9,7 @@
 #include <llvm/IR/Module.h>
 
 #include "interface/loops.h"
-#include "loops/llvm.hpp"
+#include "clang/llvm.hpp"
 
 using namespace llvm;
 

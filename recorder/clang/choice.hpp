@@ -1,16 +1,16 @@
 /* Which loops of a module get copies.
 
-   Called: by passes.cpp, in the compiler's one thread, without a lock. */
-#ifndef ASANCOL_LOOPS_CHOICE_HPP
-#define ASANCOL_LOOPS_CHOICE_HPP
+   Called: by loops.cpp, in the compiler's one thread, without a lock. */
+#ifndef ASANCOL_CLANG_CHOICE_HPP
+#define ASANCOL_CLANG_CHOICE_HPP
 
 #include <vector>
 
 #include <llvm/IR/PassManager.h>
 #include <llvm/IR/ValueMap.h>
 
-#include "loops/accesses.hpp"
-#include "loops/versions.hpp"
+#include "clang/accesses.hpp"
+#include "clang/versions.hpp"
 
 /* The second is for a loop whose copies may take less code. */
 enum class copies { NONE, ONE_STRIP, STRIPS };
