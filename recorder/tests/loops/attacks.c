@@ -720,7 +720,7 @@ static void try_lives(void)
     TRY(other = ended(80));
     TRY(other = variable(50, 50));
     TRY(other = variable(50, 51));
-    TRY(other = variable(50, 80));
+    TRY(other = variable(50, 64)); /* further up is where the function returns to */
     TRY({
         int k = 0;
         invariant(a, &k, n);
