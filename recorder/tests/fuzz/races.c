@@ -160,15 +160,30 @@ void recorder_say(const char *what, const char *of, const char *why)
         fprintf(stderr, "%s%s: %s\n", what, of, why);
 }
 
+/* Handlers come between the steps, and in the middle of a fault, before it has its place. ThreadSanitizer would let
+   many in between a place and its code: if such a handler waits for a thread that ends the segment, that thread waits
+   for the record, gives it up at last, and writes there. recorder/tests/exploring.py has these orders. */
+static _Thread_local volatile bool is_in_step, has_signal;
+
+static void let_handler_in(void)
+{
+    if (!has_signal || undisturbed != 0)
+        return;
+    has_signal = false;
+    record_access(CODE_STORE, 1, BAD_AT + THREADS * PAGE, BAD_AT + draw(PLACES));
+}
+
 /* The neighbourhood is drawn: that it is found is tested elsewhere. */
 void near_block(struct list *list, uint64_t address, struct side_fault *fault)
 {
+    let_handler_in();
     fault->allocated_stack = list_put_stack(list, call_site_of(BAD_AT + draw(PLACES)));
     fault->allocated_thread = (uint32_t)(address / GRANULE % THREADS);
 }
 void near_global(uint64_t address, struct side_fault *fault)
 {
     struct global nearest;
+    let_handler_in();
     fault->variable = globals_find(address, &nearest) ? (uint8_t)nearest.size : VARIABLE_NONE;
 }
 void near_variable(struct list *list, const struct frame *frame, uint64_t address, struct side_fault *fault)
@@ -243,9 +258,12 @@ static void record_some(unsigned thread)
 
 static void handle(int number)
 {
+    int before = errno;
     (void)number;
-    if (undisturbed == 0)
-        record_access(CODE_STORE, 1, BAD_AT + THREADS * PAGE, BAD_AT + draw(PLACES));
+    has_signal = true;
+    if (!is_in_step)
+        let_handler_in();
+    errno = before;
 }
 
 static void be_child(void)
@@ -291,7 +309,9 @@ static void *run(void *number)
     draws = 12345 + thread;
     thread_begins(thread_create(BAD_AT + thread));
     for (unsigned step = 1; step <= STEPS; step++) {
+        is_in_step = true;
         record_some(thread);
+        is_in_step = false;
         if (step == REUSE_AT)
             side_note_reuse(thread + 1);
         if (thread == 0 && step % FORKS_EACH == 0)
