@@ -1,5 +1,4 @@
 /* Accesses of blocks that are bad, bad again, or bad after a change, of all forms. */
-#include <sanitizer/asan_interface.h>
 #include <stdint.h>
 #include <stdio.h>
 #include <string.h>

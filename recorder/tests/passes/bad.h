@@ -5,6 +5,17 @@
 
 #include <stdlib.h>
 
+/* The interface of AddressSanitizer, whose headers not each compiler has. */
+#ifdef __cplusplus
+extern "C" {
+#endif
+void __asan_poison_memory_region(void const volatile *start, size_t size);
+void __asan_unpoison_memory_region(void const volatile *start, size_t size);
+void __asan_set_error_report_callback(void (*callback)(const char *text));
+#ifdef __cplusplus
+}
+#endif
+
 #ifdef __clang__
 #define APART __attribute__((noinline)) static
 #else

@@ -2,7 +2,6 @@
    and accesses where no memory is. */
 #define _GNU_SOURCE
 #include <fenv.h>
-#include <sanitizer/asan_interface.h>
 #include <setjmp.h>
 #include <signal.h>
 #include <stdint.h>

@@ -2,7 +2,6 @@
 #include <cstdio>
 #include <map>
 #include <memory>
-#include <sanitizer/asan_interface.h>
 #include <string>
 #include <vector>
 

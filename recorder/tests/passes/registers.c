@@ -1,7 +1,6 @@
 /* Values in registers across bad accesses come out as they went in, although the program's callback uses all
    registers. It is called at the first access of a place. */
 #include <fenv.h>
-#include <sanitizer/asan_interface.h>
 #include <stdio.h>
 #include <string.h>
 
