@@ -143,7 +143,7 @@ def check_at_the_end(suite: Suite, folder: str) -> None:
     write_text(f"{folder}/full.py", full)
     quiet = f"{folder}/quiet"
     write_text(f"{folder}/quiet.c", "#include <stdlib.h>\nint main(void) { char *volatile p = malloc(8); p[8] = 1;\n"
-               "p[9] = 2;\np[10] = 3;\np[11] = 4;\np[12] = 5;\n return 0; }\n")
+               "p[9] = 2;\np[10] = 3;\np[11] = 4;\np[12] = 5;\nfree(p);\nreturn 0; }\n")
     call([CC, "-g", "-w", f"{folder}/quiet.c", "-o", quiet], check=True)
     ran = suite.run("--", "python3", f"{folder}/full.py", quiet, ASANCOL_REPORT=REPORT)
     expect_ran(ran, 99, "heap-buffer-overflow", "asancol: 5 reports at ")
