@@ -19,7 +19,8 @@ enum code {
     CODE_FREE,
     CODE_POISON,
     CODE_UNPOISON,
-    CODE_CLOSE
+    CODE_CLOSE,
+    CODE_ANEW /* of version 3 */
 };
 
 /* The kinds of a poison. */
@@ -34,6 +35,7 @@ enum {
     REGION_LENGTH = 17,
     POISON_LENGTH = 18,
     FREE_LENGTH = 9,
+    ANEW_LENGTH = 1,
     CLOSE_LENGTH = 1
 };
 
@@ -65,6 +67,8 @@ static inline unsigned record_length(unsigned char code)
         return POISON_LENGTH;
     case CODE_FREE:
         return FREE_LENGTH;
+    case CODE_ANEW:
+        return ANEW_LENGTH;
     default:
         return 0;
     }

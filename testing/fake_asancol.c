@@ -24,8 +24,8 @@
 enum { STATUS_CLEAN, STATUS_REPORTS, STATUS_REFUSED, STATUS_NOT_CHECKED, STATUS_NOT_PRINTED };
 enum { MAX_STREAMS = 256 };
 
-/* Of the header; and what version 1 has otherwise than format.h, which is of version 2. */
-enum { VERSION_AT = 4 };
+/* Of the header; and what version 1 has otherwise than format.h. */
+enum { VERSION_AT = 4, NEWEST_VERSION = 3 };
 #define MAX_REGION_SIZE_1 ((uint64_t)1 << 28)
 
 static void *must(void *memory)
@@ -327,7 +327,9 @@ static uint64_t number_at(const unsigned char *bytes)
 static struct event event_of(const unsigned char *record, unsigned version)
 {
     struct event event = {.code = record[0]};
-    bool has_byte = event.code == CODE_LOAD || event.code == CODE_STORE || (event.code == CODE_POISON && version == 2);
+    bool has_byte = event.code == CODE_LOAD || event.code == CODE_STORE || (event.code == CODE_POISON && version > 1);
+    if (event.code == CODE_ANEW)
+        return event;
     const unsigned char *numbers = record + (has_byte ? 2 : 1);
     event.at = number_at(numbers);
     if (event.code == CODE_LOAD || event.code == CODE_STORE)
@@ -355,6 +357,14 @@ static const char *flaw_of(const struct event *event, unsigned version)
     return NULL;
 }
 
+static void begin_anew(void)
+{
+    if (memory.held == 0)
+        return;
+    clear_blocks();
+    clear_shadow();
+}
+
 static void check(const struct event *event)
 {
     const char *wrong = NULL;
@@ -365,6 +375,8 @@ static void check(const struct event *event)
         poison(event->at, event->at + event->size, codes[event->kind]);
     else if (event->code == CODE_UNPOISON)
         unpoison(event->at, event->at + event->size);
+    else if (event->code == CODE_ANEW)
+        begin_anew();
     else if (event->at == 0)
         return;
     else if (event->code == CODE_MALLOC && !admit(event->at, event->size))
@@ -404,6 +416,8 @@ static bool has(struct input *input, size_t count)
 
 static unsigned length_of(unsigned char code, unsigned version)
 {
+    if (code == CODE_ANEW && version < 3)
+        return 0;
     return code == CODE_POISON && version == 1 ? REGION_LENGTH : record_length(code);
 }
 
@@ -444,7 +458,7 @@ static const char *read_stream(struct input *input, uint64_t *offset)
         return input->has_failed ? "read-failed" : "truncated";
     unsigned version = input->bytes[VERSION_AT];
     input->bytes[VERSION_AT] = (unsigned char)header[VERSION_AT];
-    if (memcmp(input->bytes, header, HEADER_LENGTH) != 0 || version < 1 || version > 2)
+    if (memcmp(input->bytes, header, HEADER_LENGTH) != 0 || version < 1 || version > NEWEST_VERSION)
         return "malformed header";
     input->at = *offset = HEADER_LENGTH;
     while (fate == NULL)
