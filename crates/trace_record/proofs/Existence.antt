@@ -21,7 +21,7 @@ use Rattle.trace_record.specs.Spelling.{spelling, spellings, record_length, AllS
 use Rattle.trace_record.specs.Reading.{AreBytes, IsWholeRecord, Says, Reads}
 use Rattle.trace_record.specs.Stream.{version_of, IsFlawedRecord}
 use Rattle.trace_record.proofs.Numbers.{number, numbers_at, fields_at, same_fields}
-use Rattle.trace_record.proofs.Steps.{poison_lengths, header_of, begun_version, all_more, none_to_spell}
+use Rattle.trace_record.proofs.Steps.{poison_lengths, anew_lengths, header_of, begun_version, all_more, none_to_spell}
 use Rattle.trace_record.proofs.Same.{event_of, event_fits, event_flawless, no_prefix}
 
 byte_at : (xs : List ℕ) (i : ℕ) → AreBytes xs → get_or xs i 0 < 256
@@ -72,7 +72,7 @@ place_back more bytes len = sym (number_back more bytes (omega arith) ∙ take_a
 -- the lengths that records have
 record_lengths : (v : Version) (code : ℕ) → 0 < record_length v code
     → (record_length v code ≡ 10) ⊎ ((record_length v code ≡ 17)
-    ⊎ ((record_length v code ≡ 18) ⊎ (record_length v code ≡ 9)))
+    ⊎ ((record_length v code ≡ 18) ⊎ ((record_length v code ≡ 9) ⊎ (record_length v code ≡ 1))))
 record_lengths v code some =
     elim (cases_eq (record_length v code) 10) [
       | inl is ↦ inl is
@@ -80,7 +80,11 @@ record_lengths v code some =
         | inl is ↦ inr (inl is)
         | inr more ↦ elim (cases_eq (record_length v code) 18) [
           | inl is ↦ inr (inr (inl is))
-          | inr none ↦ inr (inr (inr (let poison = poison_lengths v in grind (arith, nat_tests))))
+          | inr last ↦ elim (cases_eq (record_length v code) 9) [
+            | inl is ↦ inr (inr (inr (inl is)))
+            | inr none ↦ inr (inr (inr (inr (let poison = poison_lengths v in let anew = anew_lengths v in
+                grind (arith, nat_tests)))))
+          ]
         ]
       ]
     ]
@@ -92,7 +96,7 @@ record Spelled (code long : ℕ) (more : List ℕ) : Type 0 where
   fit : FitBytes (numbers_at long more)
 
 spelled : (code long : ℕ) (more : List ℕ) → AreBytes more → suc (length more) ≡ long
-    → (long ≡ 10) ⊎ ((long ≡ 17) ⊎ ((long ≡ 18) ⊎ (long ≡ 9))) → Spelled code long more
+    → (long ≡ 10) ⊎ ((long ≡ 17) ⊎ ((long ≡ 18) ⊎ ((long ≡ 9) ⊎ (long ≡ 1)))) → Spelled code long more
 spelled code long more bytes len (inl is) =
     subst (λ (n : ℕ). Spelled code n more) (sym is)
     record {
@@ -118,13 +122,16 @@ spelled code long more bytes len (inr (inr (inl is))) =
         number_fits (drop 9 more) (All-drop (λ b. b < 256) 9 more bytes),
       );
     }
-spelled code long more bytes len (inr (inr (inr is))) =
+spelled code long more bytes len (inr (inr (inr (inl is)))) =
     subst (λ (n : ℕ). Spelled code n more) (sym is)
     record {
       whole = ap (λ (t : List ℕ). code ∷ t) (place_back more bytes (omega arith));
       long_is = refl;
       fit = number_fits more bytes;
     }
+spelled code long [] bytes len (inr (inr (inr (inr is)))) =
+    subst (λ (n : ℕ). Spelled code n []) (sym is) record { whole = refl; long_is = refl; fit = tt }
+spelled code long (byte ∷ more) bytes len (inr (inr (inr (inr is)))) = absurd (omega arith)
 
 record Back (v : Version) (part : List ℕ) : Type 0 where
   whole : part ≡ bytes_of (fields_at v part)
@@ -149,7 +156,7 @@ said_by v part (Some f) b is = (Err f, (fields_at v part, record { whole = b.who
 says_not : (v : Version) (e : Event) (part : List ℕ) (x : Fields) (f : Flaw) → Says v part (Ok e)
     → IsFlawedRecord v part f x → ⊥
 says_not v e part x f is bad =
-    let same : x ≡ fields_of v e = (same_fields v x (fields_of v e) [] [] bad.fit (event_fits v e)
+    let same : x ≡ fields_of v e = (same_fields v x (fields_of v e) [] [] bad.fit (event_fits v e is.0)
     (ap (λ (t : List ℕ). t ++ []) (sym bad.whole ∙ is.1))).0 in
     let none : flaw_of v x.numbers ≡ None = ap (λ (y : Fields). flaw_of v y.numbers) same ∙ event_flawless v e is.0 in
     let first : flaw_of v x.numbers ≡ Some f = bad.first in

@@ -20,7 +20,7 @@ numbers_at long more =
     if long == 10 then numbers.Access (slice_index more 0) (number (drop 1 more))
     else (if long == 17 then numbers.Region (number more) (number (drop 8 more))
     else (if long == 18 then numbers.Shade (slice_index more 0) (number (drop 1 more)) (number (drop 9 more))
-    else numbers.Place (number more)))
+    else (if long == 9 then numbers.Place (number more) else numbers.Absent)))
 
 -- the fields that bytes begin with, where they begin with a whole record of a version
 abbrev pub fields_at : Version → List ℕ → Fields
@@ -54,6 +54,9 @@ numbers_back v code (numbers.Place at) more long fit =
     let same : numbers_at (record_length v code) (to_le_bytes w64 at ++ more) ≡ numbers.Place at =
     ap (λ (n : ℕ). numbers_at n (to_le_bytes w64 at ++ more)) (sym long)
     ∙ ap numbers.Place (from_le_bytes-to_le_bytes_8 at fit) in
+    λ i. record { code = code; numbers = same i }
+numbers_back v code numbers.Absent more long fit =
+    let same : numbers_at (record_length v code) more ≡ numbers.Absent = ap (λ (n : ℕ). numbers_at n more) (sym long) in
     λ i. record { code = code; numbers = same i }
 
 pub fields_at-bytes_of : (v : Version) (x : Fields) (more : List ℕ) → Fit v x → fields_at v (bytes_of x ++ more) ≡ x

@@ -69,6 +69,7 @@ code_long v code (numbers.Access width at) more long = (omega arith, omega arith
 code_long v code (numbers.Region at size) more long = (omega arith, omega arith)
 code_long v code (numbers.Shade kind at size) more long = (omega arith, omega arith)
 code_long v code (numbers.Place at) more long = (omega arith, omega arith)
+code_long v code numbers.Absent more long = (omega arith, omega arith)
 
 smaller : {A : Type 0} (have wanted : ℕ) (y z : A) → have < wanted → (if nat_lt have wanted then y else z) ≡ y
 smaller have wanted y z lt = grind (arith, nat_tests)
@@ -110,17 +111,19 @@ module _ (v : Version) where
   spelled_long : (x : Fields) (more : List ℕ) → Fit v x → IsLong v (bytes_of x ++ more)
   spelled_long x more fit = code_long v x.code x.numbers more fit.0
 
-  long_of : (tail : List ℕ) (e : Event) (more : List ℕ) → tail ≡ spelling v e ++ more → IsLong v tail
-  long_of tail e more is = subst (IsLong v) (sym is) (spelled_long (fields_of v e) more (event_fits v e))
+  long_of : (tail : List ℕ) (e : Event) (more : List ℕ) → IsTrue (spells_in v e) → tail ≡ spelling v e ++ more
+      → IsLong v tail
+  long_of tail e more spells is =
+      subst (IsLong v) (sym is) (spelled_long (fields_of v e) more (event_fits v e spells))
 
   no_record : (code : ℕ) (more : List ℕ) → record_length v code ≡ 0 → NoEvent v (code ∷ more)
-  no_record code more zero e rest spells is = absurd (let h = long_of (code ∷ more) e rest is in omega arith)
+  no_record code more zero e rest spells is = absurd (let h = long_of (code ∷ more) e rest spells is in omega arith)
 
   nothing_follows : (limit count : ℕ) (tail : List ℕ) → MayFollow v limit count tail → NoEvent v tail
-  nothing_follows limit count [] may e more spells is = absurd (long_of [] e more is)
+  nothing_follows limit count [] may e more spells is = absurd (long_of [] e more spells is)
   nothing_follows limit count (code ∷ rest) may e more spells is =
       absurd (let short : length (code ∷ rest) < record_length v code = may.1 in
-      let h = long_of (code ∷ rest) e more is in omega arith)
+      let h = long_of (code ∷ rest) e more spells is in omega arith)
 
   not_close : (code : ℕ) → 0 < record_length v code → code ≢ 7
   not_close code some is = absurd (let zero : record_length v code ≡ 0 = ap (record_length v) is in omega arith)
@@ -161,7 +164,8 @@ module _ (v : Version) where
   flawed_no_event : (x : Fields) (more : List ℕ) (f : Flaw) → Fit v x → flaw_of v x.numbers ≡ Some f
       → NoEvent v (bytes_of x ++ more)
   flawed_no_event x more f fit first e rest spells is =
-      let same : x ≡ fields_of v e = (same_fields v x (fields_of v e) more rest fit (event_fits v e) is).0 in
+      let same : x ≡ fields_of v e = (same_fields v x (fields_of v e) more rest fit (event_fits v e spells)
+      is).0 in
       let none : flaw_of v x.numbers ≡ None = ap (λ (y : Fields). flaw_of v y.numbers) same
       ∙ event_flawless v e spells in
       cc
@@ -312,7 +316,8 @@ split_long limit v text events tail end s = made_long v text events tail s.made
 -- the version that the first eight bytes stand for, or none
 abbrev version_by_front : List ℕ → Option Version
 version_by_front front = if pointwise eqb (header version.One) front then Some version.One else
-    (if pointwise eqb (header version.Two) front then Some version.Two else None)
+    (if pointwise eqb (header version.Two) front then Some version.Two else
+    (if pointwise eqb (header version.Three) front then Some version.Three else None))
 
 -- the version of a text is that of each longer one
 pub version_same : (text more : List ℕ) → 8 ≤ length text → version_of (text ++ more) ≡ version_of text

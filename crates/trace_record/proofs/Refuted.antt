@@ -104,6 +104,7 @@ range_before_width same = absurd cc
 range_before_size : (v : Version) → region_flaw v 0x8000_0000_0000 0x1_0000_0001 ≢ Some flaw.Range
 range_before_size version.One same = absurd cc
 range_before_size version.Two same = absurd cc
+range_before_size version.Three same = absurd cc
 
 -- version 1 has regions of more than 2^28 bytes
 large_region_taken_in_version_1 : region_flaw version.One 0x1000 0x1000_0001 ≢ None

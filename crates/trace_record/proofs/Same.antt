@@ -25,9 +25,9 @@ use Rattle.trace_record.specs.Kinds.{kind_number, kind_of}
 use Rattle.trace_record.specs.Ranges.{largest_region}
 use Rattle.trace_record.specs.Shades.{shade_size, shade_kind}
 use Rattle.trace_record.specs.Spelling.{Fit, record_bytes, fields_of, poison_numbers, flaw_of, poison_length}
-use Rattle.trace_record.specs.Spelling.{record_length, spelling, spells_in, has_kind}
+use Rattle.trace_record.specs.Spelling.{record_length, anew_length, spelling, spells_in, has_kind, has_anew}
 use Rattle.trace_record.proofs.Numbers.{same_fields}
-use Rattle.trace_record.proofs.Steps.{poison_lengths}
+use Rattle.trace_record.proofs.Steps.{poison_lengths, anew_lengths}
 
 IsTrue_prop : (width : ℕ) → IsProp (IsTrue (is_width width))
 IsTrue_prop width = hlevel props
@@ -113,6 +113,7 @@ same_poison version.One a b sa sb n =
     let kb : kind_number (shade_kind b) ≡ 0 = user_alone (shade_kind b) (first_of _ _ sb) in
     same_shade a b (cc) (cc) (ka ∙ sym kb)
 same_poison version.Two a b sa sb n = same_shade a b (cc) (cc) (cc)
+same_poison version.Three a b sa sb n = same_shade a b (cc) (cc) (cc)
 
 -- events that spell in a version and have the same fields there are one
 pub same_event : (v : Version) (e f : Event) → IsTrue (spells_in v e) → IsTrue (spells_in v f)
@@ -127,6 +128,7 @@ same_event v (event.Free a) (event.Free b) se sf is = let n = numbers_of _ _ is 
 same_event v (event.Poison a) (event.Poison b) se sf is = ap event.Poison (same_poison v a b se sf (numbers_of _ _ is))
 same_event v (event.Unpoison a) (event.Unpoison b) se sf is = let n = numbers_of _ _ is in
     ap event.Unpoison (same_region a b (cc) (cc))
+same_event v event.Anew event.Anew se sf is = refl
 same_event v _ _ se sf is = absurd (let n = code_of _ _ is in omega arith)
 
 width_small : (width : ℕ) → IsTrue (is_width width) → width < 2 ^ 8
@@ -140,15 +142,22 @@ kind_small kind.Global = omega arith
 poison_fits : (v : Version) (s : Shade) → Fit v (fields_of v (event.Poison s))
 poison_fits version.One s = (refl, (omega arith, omega arith))
 poison_fits version.Two s = (refl, (let small = kind_small (shade_kind s) in omega arith, omega arith, omega arith))
+poison_fits version.Three s = (refl, (let small = kind_small (shade_kind s) in omega arith, omega arith, omega arith))
 
--- an event's fields are those of a record
-pub event_fits : (v : Version) (e : Event) → Fit v (fields_of v e)
-event_fits v (event.Load a) = (refl, (width_small a.width a.known_width, omega arith))
-event_fits v (event.Store a) = (refl, (width_small a.width a.known_width, omega arith))
-event_fits v (event.Malloc r) = (refl, (omega arith, omega arith))
-event_fits v (event.Free p) = (refl, omega arith)
-event_fits v (event.Poison s) = poison_fits v s
-event_fits v (event.Unpoison r) = (refl, (omega arith, omega arith))
+anew_fits : (v : Version) → IsTrue (has_anew v) → Fit v (fields_of v event.Anew)
+anew_fits version.One has = absurd cc
+anew_fits version.Two has = absurd cc
+anew_fits version.Three has = (refl, tt)
+
+-- an event's fields are those of a record, in a version that it spells in
+pub event_fits : (v : Version) (e : Event) → IsTrue (spells_in v e) → Fit v (fields_of v e)
+event_fits v (event.Load a) spells = (refl, (width_small a.width a.known_width, omega arith))
+event_fits v (event.Store a) spells = (refl, (width_small a.width a.known_width, omega arith))
+event_fits v (event.Malloc r) spells = (refl, (omega arith, omega arith))
+event_fits v (event.Free p) spells = (refl, omega arith)
+event_fits v (event.Poison s) spells = poison_fits v s
+event_fits v (event.Unpoison r) spells = (refl, (omega arith, omega arith))
+event_fits v event.Anew spells = anew_fits v spells
 
 no_access_flaw : (at width : ℕ) → IsTrue (is_width width) → at + width ≤ 2 ^ 47 → access_flaw at width ≡ None
 no_access_flaw at width known in_range = grind (arith, nat_tests)
@@ -170,6 +179,8 @@ poison_flawless version.One s spells = no_region_flaw version.One s.at (shade_si
     (second_of (has_kind version.One (shade_kind s)) _ spells) s.in_range
 poison_flawless version.Two s spells = no_shade_flaw version.Two s.at (shade_size s) (kind_number (shade_kind s))
     (kind_small (shade_kind s)) (second_of (has_kind version.Two (shade_kind s)) _ spells) s.in_range
+poison_flawless version.Three s spells = no_shade_flaw version.Three s.at (shade_size s) (kind_number (shade_kind s))
+    (kind_small (shade_kind s)) (second_of (has_kind version.Three (shade_kind s)) _ spells) s.in_range
 
 -- the numbers of an event have no flaw in a version that it spells in
 pub event_flawless : (v : Version) (e : Event) → IsTrue (spells_in v e) → flaw_of v (fields_of v e).numbers ≡ None
@@ -179,6 +190,7 @@ event_flawless v (event.Malloc r) spells = no_region_flaw v r.at r.size spells r
 event_flawless v (event.Free p) spells = no_place_flaw p.at p.in_range
 event_flawless v (event.Poison s) spells = poison_flawless v s spells
 event_flawless v (event.Unpoison r) spells = no_region_flaw v r.at r.size spells r.in_range
+event_flawless v event.Anew spells = refl
 
 access_of : (at width : ℕ) → access_flaw at width ≡ None → IsTrue (is_width width) × (at + width ≤ 2 ^ 47)
 access_of at width none = (grind (arith, nat_tests), grind (arith, nat_tests))
@@ -187,6 +199,7 @@ access_of at width none = (grind (arith, nat_tests), grind (arith, nat_tests))
 largest_of_all : (v : Version) → largest_region v ≤ largest_region version.Two
 largest_of_all version.One = omega arith
 largest_of_all version.Two = omega arith
+largest_of_all version.Three = omega arith
 
 pub record IsGoodRegion (v : Version) (at size : ℕ) : Type 0 where
   pub fits : IsTrue (nat_le size (largest_region v))
@@ -207,10 +220,7 @@ place_of at none = grind (arith, nat_tests)
 only_version_1 : (v : Version) → 17 ≡ poison_length v → v ≡ version.One
 only_version_1 version.One is = refl
 only_version_1 version.Two is = absurd (omega arith)
-
-only_version_2 : (v : Version) → 18 ≡ poison_length v → v ≡ version.Two
-only_version_2 version.One is = absurd (omega arith)
-only_version_2 version.Two is = refl
+only_version_1 version.Three is = absurd (omega arith)
 
 -- the codes of the records of each length
 access_codes : (v : Version) (code : ℕ) → 10 ≡ record_length v code → (code ≡ 1) ⊎ (code ≡ 2)
@@ -219,7 +229,7 @@ access_codes v code long =
       | inl is ↦ inl is
       | inr other ↦ elim (cases_eq code 2) [
         | inl is ↦ inr is
-        | inr none ↦ absurd (let poison = poison_lengths v in grind (arith, nat_tests))
+        | inr none ↦ absurd (let poison = poison_lengths v in let anew = anew_lengths v in grind (arith, nat_tests))
       ]
     ]
 
@@ -232,18 +242,25 @@ region_codes v code long =
         | inl is ↦ inr (inl (is, only_version_1 v (grind (arith, nat_tests))))
         | inr more ↦ elim (cases_eq code 6) [
           | inl is ↦ inr (inr is)
-          | inr none ↦ absurd (grind (arith, nat_tests))
+          | inr none ↦ absurd (let anew = anew_lengths v in grind (arith, nat_tests))
         ]
       ]
     ]
 
-shade_code : (v : Version) (code : ℕ) → 18 ≡ record_length v code → (code ≡ 5) × (v ≡ version.Two)
+shade_code : (v : Version) (code : ℕ) → 18 ≡ record_length v code → (code ≡ 5) × (18 ≡ poison_length v)
 shade_code v code long =
+    let anew = anew_lengths v in
     let is : code ≡ 5 = grind (arith, nat_tests) in
-    (is, only_version_2 v (grind (arith, nat_tests)))
+    (is, grind (arith, nat_tests))
 
 place_code : (v : Version) (code : ℕ) → 9 ≡ record_length v code → code ≡ 4
-place_code v code long = let poison = poison_lengths v in grind (arith, nat_tests)
+place_code v code long = let poison = poison_lengths v in let anew = anew_lengths v in grind (arith, nat_tests)
+
+absent_code : (v : Version) (code : ℕ) → 1 ≡ record_length v code → (code ≡ 8) × (1 ≡ anew_length v)
+absent_code v code long =
+    let poison = poison_lengths v in
+    let is : code ≡ 8 = grind (arith, nat_tests) in
+    (is, grind (arith, nat_tests))
 
 -- an event that spells in a version and has these fields there
 pub record HasEvent (v : Version) (x : Fields) : Type 0 where
@@ -305,9 +322,18 @@ poison_of_1 r fits =
       fields = λ i. record { code = 5; numbers = numbers.Region (s.at_is i) (s.size_is i) };
     }
 
-poison_of_2 : (at size : ℕ) (k : Kind) → IsGoodRegion version.Two at size
-    → HasEvent version.Two (record { code = 5; numbers = numbers.Shade (kind_number k) at size })
-poison_of_2 at size k good =
+-- in a version whose poison has a kind
+poison_of : (v : Version) (at size : ℕ) (k : Kind) → 18 ≡ poison_length v → IsGoodRegion v at size
+    → HasEvent v (record { code = 5; numbers = numbers.Shade (kind_number k) at size })
+poison_of version.One at size k kinds good = absurd (omega arith)
+poison_of version.Two at size k kinds good =
+    let s = shade_with at size k good.small good.in_range in
+    record {
+      event = event.Poison s.shade;
+      spells = rw (s.size_is) (good.fits);
+      fields = λ i. record { code = 5; numbers = numbers.Shade (kind_number (s.kind_is i)) (s.at_is i) (s.size_is i) };
+    }
+poison_of version.Three at size k kinds good =
     let s = shade_with at size k good.small good.in_range in
     record {
       event = event.Poison s.shade;
@@ -342,17 +368,21 @@ known_kind v at size kind none = grind (arith, nat_tests)
 region_none : (v : Version) (at size kind : ℕ) → shade_flaw v at size kind ≡ None → region_flaw v at size ≡ None
 region_none v at size kind none = let known = known_kind v at size kind none in grind (arith, nat_tests)
 
-shade_event : (v : Version) (code kind at size : ℕ) → shade_flaw v at size kind ≡ None → (code ≡ 5) × (v ≡ version.Two)
-    → HasEvent v (record { code = code; numbers = numbers.Shade kind at size })
-shade_event v code kind at size none (is, two) =
-    let good : IsGoodRegion version.Two at size =
-    subst (λ (w : Version). IsGoodRegion w at size) two (region_of v at size (region_none v at size kind none)) in
+shade_event : (v : Version) (code kind at size : ℕ) → shade_flaw v at size kind ≡ None
+    → (code ≡ 5) × (18 ≡ poison_length v) → HasEvent v (record { code = code; numbers = numbers.Shade kind at size })
+shade_event v code kind at size none (is, kinds) =
+    let good = region_of v at size (region_none v at size kind none) in
     let known = kind_back kind (let most = known_kind v at size kind none in omega arith) in
-    let here : HasEvent version.Two (record { code = 5; numbers = numbers.Shade kind at size }) =
-    subst (λ (n : ℕ). HasEvent version.Two (record { code = 5; numbers = numbers.Shade n at size })) known
-    (poison_of_2 at size (kind_of kind) good) in
-    subst (λ (w : Version). HasEvent w (record { code = code; numbers = numbers.Shade kind at size })) (sym two)
-    (subst (λ (n : ℕ). HasEvent version.Two (record { code = n; numbers = numbers.Shade kind at size })) (sym is) here)
+    let here : HasEvent v (record { code = 5; numbers = numbers.Shade kind at size }) =
+    subst (λ (n : ℕ). HasEvent v (record { code = 5; numbers = numbers.Shade n at size })) known
+    (poison_of v at size (kind_of kind) kinds good) in
+    subst (λ (n : ℕ). HasEvent v (record { code = n; numbers = numbers.Shade kind at size })) (sym is) here
+
+-- in a version with such a record
+absent_event : (v : Version) → 1 ≡ anew_length v → HasEvent v (record { code = 8; numbers = numbers.Absent })
+absent_event version.One has = absurd (omega arith)
+absent_event version.Two has = absurd (omega arith)
+absent_event version.Three has = record { event = event.Anew; spells = refl; fields = refl }
 
 event_with : (v : Version) (code : ℕ) (x : Numbers) → length (record_bytes code x) ≡ record_length v code
     → flaw_of v x ≡ None → HasEvent v (record { code = code; numbers = x })
@@ -372,6 +402,9 @@ event_with v code (numbers.Place at) long none =
       spells = refl;
       fields = λ i. record { code = sym (place_code v code long) i; numbers = numbers.Place at };
     }
+event_with v code numbers.Absent long none =
+    let h = absent_code v code long in
+    subst (λ (n : ℕ). HasEvent v (record { code = n; numbers = numbers.Absent })) (sym h.0) (absent_event v h.1)
 
 -- fields whose numbers have no flaw are those of an event
 pub event_of : (v : Version) (x : Fields) → Fit v x → flaw_of v x.numbers ≡ None → HasEvent v x
@@ -381,5 +414,5 @@ event_of v x fit none = event_with v x.code x.numbers fit.0 none
 pub no_prefix : (v : Version) (e f : Event) (x y : List ℕ) → IsTrue (spells_in v e) → IsTrue (spells_in v f)
     → spelling v e ++ x ≡ spelling v f ++ y → (e ≡ f) × (x ≡ y)
 no_prefix v e f x y se sf is =
-    let same = same_fields v (fields_of v e) (fields_of v f) x y (event_fits v e) (event_fits v f) is in
+    let same = same_fields v (fields_of v e) (fields_of v f) x y (event_fits v e se) (event_fits v f sf) is in
     (same_event v e f se sf same.0, same.1)

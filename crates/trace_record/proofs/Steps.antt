@@ -20,7 +20,7 @@ use Rattle.trace_record.specs.declared.fields.Numbers.TheVariants as numbers
 use Rattle.trace_record.specs.declared.version.Version.{Version}
 use Rattle.trace_record.specs.declared.version.Version.TheVariants as version
 use Rattle.trace_record.specs.Spelling.{header, close, record_bytes, bytes_of, Fit, flaw_of, spelling, spellings}
-use Rattle.trace_record.specs.Spelling.{spells_in, AllSpellIn, poison_length, record_length}
+use Rattle.trace_record.specs.Spelling.{spells_in, AllSpellIn, poison_length, anew_length, record_length}
 use Rattle.trace_record.specs.Reading.{Says}
 use Rattle.trace_record.specs.Stream.{version_of, IsMadeOf, IsInHeader, IsUnfinished, MayFollow, header_and_records}
 use Rattle.trace_record.specs.Stream.{offset_of, Spells, IsDecidedByLast}
@@ -36,28 +36,42 @@ joined text piece i n = append_assoc text (take i piece) (take n (drop i piece))
 pub poison_lengths : (v : Version) → (17 ≤ poison_length v) × (poison_length v ≤ 18)
 poison_lengths version.One = (omega arith, omega arith)
 poison_lengths version.Two = (omega arith, omega arith)
+poison_lengths version.Three = (omega arith, omega arith)
+
+-- the record of a history that begins anew has one byte, where a version has it
+pub anew_lengths : (v : Version) → anew_length v ≤ 1
+anew_lengths version.One = omega arith
+anew_lengths version.Two = omega arith
+anew_lengths version.Three = omega arith
 
 pub record_length-within : (v : Version) (code : ℕ) → record_length v code ≤ poison_length v
-record_length-within v code = let poison = poison_lengths v in grind (arith, nat_tests)
+record_length-within v code = let poison = poison_lengths v in let anew = anew_lengths v in grind (arith, nat_tests)
 
 -- a list of one byte or more has a last one
 pub last_of : (n : ℕ) (xs : List ℕ) → length xs ≡ n + 1 → xs ≡ take n xs ++ get_or xs n 0 ∷ []
 last_of n xs len = sym (take_all (n + 1) xs (omega arith)) ∙ take_more xs n 0 (omega arith)
 
--- a whole record without its last byte is unfinished
+-- a flawed record without its last byte is unfinished
 abbrev WithoutLast : Version → List ℕ → Type 0
 WithoutLast v bytes = (before : List ℕ) × (byte : ℕ) × (bytes ≡ before ++ byte ∷ []) × IsUnfinished v before
 
-without_last : (v : Version) (code : ℕ) (x : Numbers) → length (record_bytes code x) ≡ record_length v code
-    → WithoutLast v (record_bytes code x)
-without_last v code (numbers.Access width at) long = let bytes = record_bytes code (numbers.Access width at) in
+without_last : (v : Version) (code : ℕ) (x : Numbers) (f : Flaw) → length (record_bytes code x) ≡ record_length v code
+    → flaw_of v x ≡ Some f → WithoutLast v (record_bytes code x)
+without_last v code (numbers.Access width at) f long first = let bytes = record_bytes code (numbers.Access width at) in
     (take 9 bytes, get_or bytes 9 0, refl, omega arith)
-without_last v code (numbers.Region at size) long = let bytes = record_bytes code (numbers.Region at size) in
+without_last v code (numbers.Region at size) f long first = let bytes = record_bytes code (numbers.Region at size) in
     (take 16 bytes, get_or bytes 16 0, refl, omega arith)
-without_last v code (numbers.Shade kind at size) long = let bytes = record_bytes code (numbers.Shade kind at size) in
+without_last v code (numbers.Shade kind at size) f long first = let bytes = record_bytes code (numbers.Shade kind at size) in
     (take 17 bytes, get_or bytes 17 0, refl, omega arith)
-without_last v code (numbers.Place at) long = let bytes = record_bytes code (numbers.Place at) in
+without_last v code (numbers.Place at) f long first = let bytes = record_bytes code (numbers.Place at) in
     (take 8 bytes, get_or bytes 8 0, refl, omega arith)
+without_last v code numbers.Absent f long first = absurd cc
+
+-- fewer bytes than the record has that they begin
+pub unfinished_of : (v : Version) (part : List ℕ) → 0 < length part → length part < record_length v (get_or part 0 0)
+    → IsUnfinished v part
+unfinished_of v [] some short = absurd (omega arith)
+unfinished_of v (code ∷ more) some short = short
 
 pub follows_unfinished : (v : Version) (limit count : ℕ) (rest : List ℕ) → count < limit → IsUnfinished v rest
     → MayFollow v limit count rest
@@ -84,11 +98,16 @@ differs xs ys ne =
 pub short_version : (text : List ℕ) → length text < 8 → version_of text ≡ None
 short_version text lt =
     let ne : 8 ≢ length (take 8 text) = λ e. absurd (omega (arith, length-take 8 text)) in
-    rw (differs (header version.One) (take 8 text) ne, differs (header version.Two) (take 8 text) ne) refl
+    rw (
+      differs (header version.One) (take 8 text) ne,
+      differs (header version.Two) (take 8 text) ne,
+      differs (header version.Three) (take 8 text) ne,
+    ) refl
 
 pub headed_version : (v : Version) (more : List ℕ) → version_of (header v ++ more) ≡ Some v
 headed_version version.One more = refl
 headed_version version.Two more = refl
+headed_version version.Three more = refl
 
 -- a text that says its version begins with the header of this version
 pub header_of : (text : List ℕ) (v : Version) → version_of text ≡ Some v → take 8 text ≡ header v
@@ -103,9 +122,15 @@ header_of text v is =
             let found : version_of text ≡ Some version.Two = rw (first, two) refl in
             let same : version.Two ≡ v = (cc) in
             sym ((bytes_decides (header version.Two) (take 8 text)).0 two) ∙ ap header same
-        | inr neither ↦
-            let found : version_of text ≡ None = rw (first, neither) refl in
-            absurd (cc)
+        | inr second ↦ elim (cases_Bool (starts_with eqb text (header version.Three))) [
+          | inl three ↦
+              let found : version_of text ≡ Some version.Three = rw (first, second, three) refl in
+              let same : version.Three ≡ v = (cc) in
+              sym ((bytes_decides (header version.Three) (take 8 text)).0 three) ∙ ap header same
+          | inr none ↦
+              let found : version_of text ≡ None = rw (first, second, none) refl in
+              absurd (cc)
+        ]
       ]
     ]
 
@@ -120,6 +145,7 @@ pub made_version : (v : Version) (text : List ℕ) (events : List Event) (rest :
     → version_of text ≡ Some v
 made_version version.One text events rest made = ap version_of made.split
 made_version version.Two text events rest made = ap version_of made.split
+made_version version.Three text events rest made = ap version_of made.split
 
 pub made_long : (v : Version) (text : List ℕ) (events : List Event) (rest : List ℕ) → IsMadeOf v text events rest
     → 8 ≤ length text
@@ -244,6 +270,23 @@ module _ (d : Standing) (part text : List ℕ) (events : List Event) (at : Stand
   split_part none = made_more.split ∙ ap (λ (p : List ℕ). (header d.version ++ spellings d.version events)
       ++ (p ++ part)) none ∙ sym (append-nil _)
 
+  -- the part does not end the record
+  pub part_more : IsUnfinished d.version (d.rest ++ part) → d.events < d.limit
+      → StandsAt (record d { rest = d.rest ++ part }) (text ++ part) events
+  part_more short room =
+      record {
+        running = at.running;
+        reads = inr record {
+          version = d.version;
+          made = made_more;
+          follows = follows_unfinished d.version d.limit (length events) (d.rest ++ part)
+              (let n = at.count in omega arith) short;
+        };
+        count = at.count;
+        offset = sym offset_more;
+        version = λ _. made_version d.version (text ++ part) events (d.rest ++ part) made_more;
+      }
+
   pub too_many : (byte : ℕ) → d.rest ≡ [] → part ≡ byte ∷ [] → byte ≢ close → d.events ≡ d.limit
       → Spells d.limit (text ++ part) events (end_of d fate.TooMany) × IsDecidedByLast d.limit (text ++ part) events
   too_many byte none one not full =
@@ -284,7 +327,7 @@ module _ (d : Standing) (part text : List ℕ) (events : List Event) (at : Stand
   bad_record x f is fit first room =
       let front = header d.version ++ spellings d.version events in
       let s : text ++ part ≡ front ++ bytes_of x = made_more.split ∙ ap (λ (p : List ℕ). front ++ p) is in
-      let short = without_last d.version x.code x.numbers fit.0 in
+      let short = without_last d.version x.code x.numbers f fit.0 first in
       let within : length events < d.limit = let e = at.count in omega arith in (
         record {
           fate = inr (

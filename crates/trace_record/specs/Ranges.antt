@@ -7,6 +7,7 @@ use Rattle.trace_record.specs.declared.version.Version.TheVariants as version
 abbrev pub largest_region : Version → ℕ
 largest_region version.One = 2 ^ 28
 largest_region version.Two = 2 ^ 32
+largest_region version.Three = 2 ^ 32
 
 -- the greatest event limit
 abbrev pub largest_limit : ℕ

@@ -26,7 +26,8 @@ BeginsWith front text = (more : List ℕ) × (text ≡ front ++ more)
 abbrev pub version_of : List ℕ → Option Version
 version_of text =
     if starts_with nat_eq text (header version.One) then Some version.One
-    else (if starts_with nat_eq text (header version.Two) then Some version.Two else None)
+    else (if starts_with nat_eq text (header version.Two) then Some version.Two
+    else (if starts_with nat_eq text (header version.Three) then Some version.Three else None))
 
 -- one byte that is no code: no record begins with it, and it is not the close
 pub record IsUnknownCode (v : Version) (part : List ℕ) (byte : ℕ) : Type 0 where

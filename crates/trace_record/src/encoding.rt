@@ -1,6 +1,6 @@
 //! The encoder: it puts the record of an event into a buffer.
 
-ghost use Rattle.std.specs.Prelude.{◌≡◌, ◌+◌, ◌≤◌, ◌∷◌, ◌++◌, IsTrue, length, take, drop};
+ghost use Rattle.std.specs.Prelude.{◌≡◌, ◌+◌, ◌≤◌, [], ◌∷◌, ◌++◌, IsTrue, length, take, drop};
 ghost use Rattle.std.specs.Int.{w64, to_le_bytes};
 ghost use Rattle.trace_record.specs.Kinds.{kind_number};
 ghost use Rattle.trace_record.specs.Shades.{shade_size, shade_kind};
@@ -8,7 +8,7 @@ ghost use Rattle.trace_record.specs.Spelling.{spelling, spells_in};
 
 use crate::event::{Access, Event, Place};
 use crate::format::{
-    ACCESS_LENGTH, FREE, LOAD, MALLOC, PLACE_LENGTH, POISON, RECORD_ROOM, REGION_LENGTH,
+    ACCESS_LENGTH, ANEW, ANEW_LENGTH, FREE, LOAD, MALLOC, PLACE_LENGTH, POISON, RECORD_ROOM, REGION_LENGTH,
     SHADE_LENGTH, STORE, UNPOISON,
 };
 use crate::shade::Shade;
@@ -32,9 +32,10 @@ pub fn encode(version: Version, event: &Event, out: &mut [u8; RECORD_ROOM]) -> u
         Event::Free(place) => encode_place(FREE, place, out),
         Event::Poison(shade) => match version {
             Version::One => encode_region(POISON, shade.at(), shade.size(), out),
-            Version::Two => encode_shade(shade, out),
+            Version::Two | Version::Three => encode_shade(shade, out),
         },
         Event::Unpoison(region) => encode_region(UNPOISON, region.at(), region.size(), out),
+        Event::Anew => encode_anew(out),
     }
 }
 
@@ -62,7 +63,7 @@ fn encode_region(code: u8, at: u64, size: u64, out: &mut [u8; RECORD_ROOM]) -> u
     REGION_LENGTH
 }
 
-/// The record of a poison of version 2.
+/// The record of a poison from version 2 on.
 fn encode_shade(shade: &Shade, out: &mut [u8; RECORD_ROOM]) -> usize
     ensures length { result ≡ 18 }
     ensures front { take 18 out.new ≡ 5 ∷ kind_number (shade_kind shade.now)
@@ -85,6 +86,16 @@ fn encode_place(code: u8, place: &Place, out: &mut [u8; RECORD_ROOM]) -> usize
     out[0] = code;
     put_number(out, 1, place.at);
     PLACE_LENGTH
+}
+
+/// The record of a history that begins anew.
+fn encode_anew(out: &mut [u8; RECORD_ROOM]) -> usize
+    ensures length { result ≡ 1 }
+    ensures front { take 1 out.new ≡ 8 ∷ [] }
+    ensures rest { drop 1 out.new ≡ drop 1 out.old }
+{
+    out[0] = ANEW;
+    ANEW_LENGTH
 }
 
 /// Puts a number, its lowest byte first, at a place of the record.

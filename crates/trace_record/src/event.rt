@@ -45,6 +45,8 @@ pub enum Event {
     Free(Place),
     Poison(Shade),
     Unpoison(Region),
+    /// Nothing: what was said before counts no more, and the history begins anew.
+    Anew,
 }
 
 // Each event is moved by its bytes from thread to thread, so it is kept small.
@@ -54,8 +56,8 @@ impl Event {
     ghost use Rattle.trace_record.specs.Spelling.{spells_in};
 
     /// Whether the event can be spelled in a version. In version 1 a poison of another kind than
-    /// user can't, nor can a malloc, a poison or an unpoison of more than 2^28 bytes. In version 2
-    /// every event can.
+    /// user can't, nor can a malloc, a poison or an unpoison of more than 2^28 bytes. `Anew` can
+    /// only in version 3, where every event can.
     pub fn spells_in(&self, version: Version) -> bool
         ensures { result ≡ spells_in version self.now }
     {
@@ -64,10 +66,11 @@ impl Event {
                 region.size() <= version.largest_region()
             }
             Event::Poison(shade) => {
-                (version == Version::Two || shade.kind() == Kind::User)
+                (version != Version::One || shade.kind() == Kind::User)
                     && shade.size() <= version.largest_region()
             }
             Event::Load(_) | Event::Store(_) | Event::Free(_) => true,
+            Event::Anew => version == Version::Three,
         }
     }
 }

@@ -10,7 +10,9 @@ ghost use Rattle.trace_record.specs.Spelling.{spells_in};
 
 use crate::end::Flaw;
 use crate::event::{Access, Event, Place, Region};
-use crate::format::{ACCESS_LENGTH, LOAD, MALLOC, POISON, REGION_LENGTH, SHADE_LENGTH};
+use crate::format::{
+    ACCESS_LENGTH, LOAD, MALLOC, PLACE_LENGTH, POISON, REGION_LENGTH, SHADE_LENGTH,
+};
 use crate::shade::{Kind, Shade};
 use crate::version::Version;
 use byteorder::{ByteOrder, LittleEndian};
@@ -22,10 +24,12 @@ pub enum Numbers {
     Access { width: u8, at: u64 },
     /// Those of a malloc, an unpoison or a poison of version 1.
     Region { at: u64, size: u64 },
-    /// Those of a poison of version 2.
+    /// Those of a poison from version 2 on.
     Shade { kind: u8, at: u64, size: u64 },
     /// That of a free.
     Place { at: u64 },
+    /// None: a history begins anew.
+    Absent,
 }
 
 /// What a whole record is made of.
@@ -64,9 +68,10 @@ impl Fields {
                 at: number_at(bytes, 2),
                 size: number_at(bytes, 10),
             },
-            _ => Numbers::Place {
+            PLACE_LENGTH => Numbers::Place {
                 at: number_at(bytes, 1),
             },
+            _ => Numbers::Absent,
         };
         Fields {
             code: bytes[0],
@@ -105,6 +110,7 @@ impl Fields {
                 Ok(Event::Poison(shade))
             }
             Numbers::Place { at } => Place::new(at).map(Event::Free),
+            Numbers::Absent => Ok(Event::Anew),
         }
     }
 }

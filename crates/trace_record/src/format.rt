@@ -13,6 +13,9 @@ pub const HEADER: [u8; 8] = [b'A', b'S', b'T', b'R', 1, 0, 0, 0];
 /// The eight bytes that a stream of version 2 begins with.
 pub const HEADER_2: [u8; 8] = [b'A', b'S', b'T', b'R', 2, 0, 0, 0];
 
+/// The eight bytes that a stream of version 3 begins with.
+pub const HEADER_3: [u8; 8] = [b'A', b'S', b'T', b'R', 3, 0, 0, 0];
+
 /// The byte that closes a stream. No record begins with it.
 pub const CLOSE: u8 = 7;
 
@@ -35,6 +38,9 @@ pub const POISON: u8 = 5;
 
 pub const UNPOISON: u8 = 6;
 
+/// The code of a history that begins anew, in version 3. The close has the code between.
+pub const ANEW: u8 = 8;
+
 /// How many bytes the record of a load or a store has: its code, a width and an address.
 pub const ACCESS_LENGTH: usize = 10;
 
@@ -42,11 +48,15 @@ pub const ACCESS_LENGTH: usize = 10;
 /// address and a size.
 pub const REGION_LENGTH: usize = 17;
 
-/// How many bytes the record of a poison of version 2 has: its code, a kind, an address and a size.
+/// How many bytes the record of a poison has from version 2 on: its code, a kind, an address and a
+/// size.
 pub const SHADE_LENGTH: usize = 18;
 
 /// How many bytes the record of a free has: its code and an address.
 pub const PLACE_LENGTH: usize = 9;
+
+/// How many bytes the record of a history that begins anew has: its code.
+pub const ANEW_LENGTH: usize = 1;
 
 /// The version of a stream that begins with these bytes, if they begin with a header.
 pub fn read_header(bytes: &[u8]) -> Option<Version>
@@ -56,6 +66,8 @@ pub fn read_header(bytes: &[u8]) -> Option<Version>
         Some(Version::One)
     } else if bytes.starts_with(&HEADER_2) {
         Some(Version::Two)
+    } else if bytes.starts_with(&HEADER_3) {
+        Some(Version::Three)
     } else {
         None
     }
@@ -71,7 +83,11 @@ pub fn length_of(version: Version, code: u8) -> usize
         FREE => PLACE_LENGTH,
         POISON => match version {
             Version::One => REGION_LENGTH,
-            Version::Two => SHADE_LENGTH,
+            Version::Two | Version::Three => SHADE_LENGTH,
+        },
+        ANEW => match version {
+            Version::One | Version::Two => 0,
+            Version::Three => ANEW_LENGTH,
         },
         _ => 0,
     }

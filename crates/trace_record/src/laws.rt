@@ -3,6 +3,7 @@
 ghost use Rattle.std.specs.Prelude.{◌≡◌, ◌≢◌, ◌+◌, ◌*◌, ◌<◌, ◌≤◌, ◌++◌};
 ghost use Rattle.std.specs.Prelude.{ℕ, IsTrue, List, Option, Some, Result, length, take};
 ghost use Rattle.trace_record.specs.declared.event.Event.{Event};
+ghost use Rattle.trace_record.specs.declared.event.Event.TheVariants as event;
 ghost use Rattle.trace_record.specs.declared.end.End.{End};
 ghost use Rattle.trace_record.specs.declared.end.Fate.{Fate};
 ghost use Rattle.trace_record.specs.declared.end.Fate.TheVariants as fate;
@@ -16,9 +17,10 @@ ghost use Rattle.trace_record.specs.Spelling.{header, spelling, spellings, spell
 ghost use Rattle.trace_record.specs.Stream.{IsDecided, IsDecidedFate, IsOpen, Spells, version_of};
 ghost use Rattle.trace_record.specs.Reading.{AreBytes, IsWholeRecord, Reads, Says};
 
-/// Version 2 has a spelling for every event.
-pub fn every_event_spells_in_version_2()
-    ensures { (e : Event) → IsTrue (spells_in version.Two e) }
+/// Version 3 has a spelling for every event, and version 2 for every one but `Anew`.
+pub fn every_event_spells_in_version_3()
+    ensures all { (e : Event) → IsTrue (spells_in version.Three e) }
+    ensures version_2 { (e : Event) → e ≢ event.Anew → IsTrue (spells_in version.Two e) }
 {}
 
 /// In a version that both events spell in, no event's spelling begins another's: the event that
@@ -49,8 +51,8 @@ pub fn texts_have_one_reading()
 {}
 
 /// An open text is no longer than the header and the longest records that the limit allows: those
-/// of a malloc in version 1, and those of a poison in version 2. So one byte more decides every
-/// text.
+/// of a malloc in version 1, and those of a poison from version 2 on. So one byte more decides
+/// every text.
 pub fn open_texts_are_short()
     ensures short { (limit : ℕ) (text : List ℕ) (events : List Event) →
         IsOpen limit text events → length text ≤ 18 * limit + 8 }

@@ -12,6 +12,8 @@ pub enum Version {
     One,
     /// Version 2. A poison has a kind. A region has at most 2^32 bytes.
     Two,
+    /// Version 3. As version 2, and the history can begin anew.
+    Three,
 }
 
 impl Version {
@@ -22,7 +24,7 @@ impl Version {
     {
         match self {
             Version::One => 1 << 28,
-            Version::Two => 1 << 32,
+            Version::Two | Version::Three => 1 << 32,
         }
     }
 }
