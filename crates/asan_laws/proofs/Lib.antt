@@ -32,3 +32,4 @@ mod StatedBlocks
 mod Known
 mod NewSegment
 mod Reasons
+mod Anew
