@@ -55,8 +55,8 @@ module _ {A : Type 0} where
     pub count : checked_of c ≡ length past
     pub reports : reports_of c ≡ verdicts_of bound past
 
-  -- the checker has failed within this trace: its reports are the verdicts on the events that it had
-  -- checked by then, which are the first of the trace and so the last of the list
+  -- the checker has failed within this trace: its reports are the verdicts on the events that it
+  -- had checked by then, which are the first of the trace and so the last of the list
   pub record FailedAt (bound : ℕ) (c : Checker A) (past : List Event) : Type 0 where
     pub failed : has_failed c ≡ true
     pub bound_is : bound_of c ≡ bound

@@ -1,7 +1,8 @@
 -- What the checker says of each event of a trace, whose history may begin anew.
 --
--- After an `anew`, what was said before it counts no more: each event is judged by the history since
--- the last one, and has its number among all events of the trace (this project's choice, profile).
+-- After an `anew`, what was said before it counts no more: each event is judged by the history
+-- since the last one, and has its number among all events of the trace (this project's choice,
+-- profile).
 use Rattle.std.specs.Prelude.{ℕ, ◌+◌, List, [], ◌∷◌, ◌++◌, length, Option, option_to_list, reverse}
 use Rattle.std.specs.Option.{option_map}
 use Rattle.trace_record.specs.declared.event.Event.{Event}

@@ -51,7 +51,8 @@ since_more event.Anew past is = absurd is
 -- the history that counts, after one that never begins anew
 since_whole : (past : List Event) → IsOneHistory past → since_anew past ≡ past
 since_whole [] one = refl
-since_whole (e ∷ past) one = since_more e past (other e past one) ∙ ap (λ es. e ∷ es) (since_whole past (before e past one))
+since_whole (e ∷ past) one = since_more e past (other e past one)
+    ∙ ap (λ es. e ∷ es) (since_whole past (before e past one))
 
 -- and after one that begins anew
 since_begun : (history past : List Event) → IsOneHistory history → since_anew (history ++ event.Anew ∷ past) ≡ history

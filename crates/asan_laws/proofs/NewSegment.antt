@@ -34,7 +34,7 @@ use Rattle.asan_check.proofs.Steps.{live_malloc, none_apart}
 use Rattle.asan_laws.specs.Laws.{access_event}
 use Rattle.asan_laws.specs.Recording.{Detail, shadow_bytes, FindAllBytes, is_of_block}
 use Rattle.asan_check.specs.Verdicts.{is_access}
-use Rattle.asan_laws.specs.Snapshots.{lays_none, lays_live, lays_held, is_shade}
+use Rattle.asan_laws.specs.Snapshots.{lays_none, lays_live, lays_held}
 use Rattle.asan_laws.specs.LeanRecording.{RecordsLeanly, begins, block, access, states_block, states, shadow_after}
 use Rattle.asan_laws.specs.LeanRecording.{lean_numbers, HaveSameStart, EachHeldFits}
 use Rattle.asan_laws.specs.Runs.{Step, Does, Releases, events_of, live_in, held_in, admits_in, marks_in, shadow_in}

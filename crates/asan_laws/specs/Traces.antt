@@ -1,4 +1,5 @@
--- Traces of several histories, each of which begins anew. As in a history, the newest event is first.
+-- Traces of several histories, each of which begins anew. As in a history, the newest event is
+-- first.
 use Rattle.std.specs.Prelude.{ℕ, ◌+◌, List, [], ◌∷◌, ◌++◌}
 use Rattle.trace_record.specs.declared.event.Event.{Event}
 use Rattle.trace_record.specs.declared.event.Event.TheVariants as event

@@ -20,8 +20,8 @@ pub fn a_trace_of_one_history_is_that_history()
 {}
 
 /// A history that begins anew is judged by itself: its reports follow those of the trace before it,
-/// and are numbered on. What is wrong with the next event is wrong with it in this history, whatever
-/// the trace was before.
+/// and are numbered on. What is wrong with the next event is wrong with it in this history,
+/// whatever the trace was before.
 pub fn a_history_that_begins_anew_is_judged_by_itself()
     ensures verdicts { (bound : ℕ) (past history : List Event) → IsOneHistory history →
         trace.verdicts_of bound (history ++ event.Anew ∷ past)

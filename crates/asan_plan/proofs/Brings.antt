@@ -1,35 +1,22 @@
 -- What is stated of a block and of bytes, in a history of its own.
-use Rattle.std.proofs.Common.{◌≡◌, ℕ, ◌+◌, ◌-◌, ◌*◌, ◌≤◌, ◌<◌, Bool, true, false, cond, leb, List, [], ◌∷◌, ◌++◌, length}
-use Rattle.std.proofs.Common.{refl, sym, ap, subst, ◌∙◌, arith}
-use Rattle.std.specs.Prelude.{Contains, min}
+use Rattle.std.proofs.Common.{◌≡◌, ℕ, ◌≤◌, true, false, [], ◌∷◌, ◌++◌}
+use Rattle.std.proofs.Common.{refl, sym, ap, ◌∙◌, arith}
+use Rattle.std.specs.Prelude.{Contains}
 use Rattle.std.proofs.lemmas.Bool.{eq-eqb}
-use Rattle.std.proofs.lemmas.Bool.Decides.{nat_tests}
-use Rattle.trace_record.specs.declared.event.Event.{Event}
 use Rattle.trace_record.specs.declared.event.Event.TheVariants as event
 use Rattle.trace_record.specs.declared.event.Place.{Place}
 use Rattle.trace_record.specs.declared.event.Region.{Region}
-use Rattle.trace_record.specs.declared.shade.Shade.{Shade}
-use Rattle.trace_record.specs.Shades.{shade_size, shade_kind}
-use Rattle.shadow_map.specs.Granules.{front_of, poisoned_byte, unpoisoned_byte}
-use Rattle.heap_book.specs.Spans.{Extent, IsPlaced, span_bytes, held_of, starts_at}
+use Rattle.heap_book.specs.Spans.{IsPlaced, span_bytes, starts_at}
 use Rattle.heap_book.proofs.NeverMeet.{may_be_admitted-true}
 use Rattle.heap_book.proofs.Held.{held-within}
-use Rattle.asan_check.specs.Codes.{code_of_kind}
 use Rattle.asan_check.specs.History.{block_of, live, held, admits}
-use Rattle.asan_check.specs.Verdicts.{fault_of, verdicts_of}
+use Rattle.asan_check.specs.Verdicts.{verdicts_of}
 use Rattle.asan_check.proofs.Members.{in_head}
 use Rattle.asan_check.proofs.Steps.{live_malloc, live_free, held_malloc, held_free}
 use Rattle.asan_check.proofs.Faults.{malloc_admitted, free_of_live}
 use Rattle.asan_laws.specs.LeanRecording.{shadow_after}
-use Rattle.asan_laws.proofs.Shown.{shadow_malloc, shadow_free, shadow_shade}
-use Rattle.asan_plan.specs.declared.saying.Around.{Around}
-use Rattle.asan_plan.specs.declared.saying.Stated.{Stated}
-use Rattle.asan_plan.specs.declared.saying.Stated.TheVariants as stated
-use Rattle.asan_plan.specs.Saying.{left_by, block_events}
-
--- no byte of an empty history is marked
-pub nothing_marked : (bound granule : ℕ) → shadow_after bound [] granule ≡ 0
-nothing_marked bound granule = refl
+use Rattle.asan_laws.proofs.Shown.{shadow_malloc, shadow_free}
+use Rattle.asan_plan.specs.Saying.{left_by}
 
 -- ---- a block
 
@@ -43,7 +30,8 @@ module _ (bound : ℕ) (r : Region) (placed : IsPlaced (block_of r)) where
   has_live : Contains (live bound (event.Malloc r ∷ [])) (block_of r)
   has_live = rw is_live (in_head (block_of r) [])
 
-  pub live_shadow : (granule : ℕ) → shadow_after bound (event.Malloc r ∷ []) granule ≡ left_by (block_of r) false granule
+  pub live_shadow : (granule : ℕ) →
+      shadow_after bound (event.Malloc r ∷ []) granule ≡ left_by (block_of r) false granule
   live_shadow granule = shadow_malloc bound [] r granule admitted
 
   pub live_quiet : verdicts_of bound (event.Malloc r ∷ []) ≡ []

@@ -1,6 +1,5 @@
 -- Shadow bytes in numbers: what a shading makes of one.
-use Rattle.std.proofs.Common.{◌≡◌, ℕ, ◌+◌, ◌-◌, ◌*◌, ◌≤◌, ◌<◌, true, false, ◌∙◌, sym, arith}
-use Rattle.std.specs.Prelude.{min}
+use Rattle.std.proofs.Common.{◌≡◌, ℕ, ◌<◌, true, false, arith}
 use Rattle.std.proofs.lemmas.Bool.Decides.{nat_tests}
 use Rattle.shadow_map.specs.Checks.{is_negative}
 use Rattle.shadow_map.specs.Granules.{front_of, poisoned_byte, unpoisoned_byte}
@@ -42,9 +41,6 @@ code_back shadow recorded other none = grind (arith, nat_tests)
 -- a granule without an addressable byte has a code
 pub is_code : (shadow : ℕ) → as_recorded shadow ≡ shadow → front_of shadow ≡ 0 → is_negative shadow ≡ true
 is_code shadow recorded none = grind (arith, nat_tests)
-
-pub recorded_again : (shadow : ℕ) → as_recorded (as_recorded shadow) ≡ as_recorded shadow
-recorded_again shadow = grind (arith, nat_tests)
 
 -- a block's byte is a code
 pub heap_code : (shadow : ℕ) → is_of_heap shadow ≡ true → is_negative shadow ≡ true

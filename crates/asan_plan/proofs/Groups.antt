@@ -1,6 +1,6 @@
 -- A recording in groups has the reports of its run.
-use Rattle.std.proofs.Common.{◌≡◌, ℕ, ◌+◌, Bool, true, false, List, [], ◌∷◌, ◌++◌, length, map, Option, None, refl, sym, ap}
-use Rattle.std.proofs.Common.{subst, ◌∙◌}
+use Rattle.std.proofs.Common.{◌≡◌, ℕ, ◌+◌, true, false, List, [], ◌∷◌, ◌++◌, length, map, None, refl, sym, ap}
+use Rattle.std.proofs.Common.{◌∙◌}
 use Rattle.std.specs.Prelude.{option_to_list}
 use Rattle.std.specs.Option.{option_map}
 use Rattle.std.specs.List.{AllZip}
@@ -10,12 +10,12 @@ use Rattle.trace_record.specs.declared.event.Event.{Event}
 use Rattle.trace_record.specs.declared.event.Event.TheVariants as event
 use Rattle.asan_check.specs.declared.report.Fault.{Fault}
 use Rattle.asan_check.specs.declared.report.Report.{Report}
-use Rattle.asan_check.specs.Verdicts.{fault_of, verdicts_of}
+use Rattle.asan_check.specs.Verdicts.{verdicts_of}
 use Rattle.asan_check.specs.Traces.{since_anew}
 use Rattle.asan_check.specs.Traces as trace
 use Rattle.asan_check.proofs.Frees as frees
 use Rattle.asan_laws.specs.Thinning.{LeaveTheSame}
-use Rattle.asan_laws.specs.Recording.{Detail, shadow_bytes, AddTheSame, IsReportedOfOne}
+use Rattle.asan_laws.specs.Recording.{Detail, shadow_bytes, IsReportedOfOne}
 use Rattle.asan_laws.specs.Runs.{Step, Does, events_of, fault_in, verdicts_in, faults_in}
 use Rattle.asan_laws.specs.Traces.{IsOneHistory, numbered_on}
 use Rattle.asan_laws.proofs.Anew.{fault_begun, verdicts_begun}
@@ -53,8 +53,8 @@ module _ (bound : ℕ) (before recorded : List Event) (past run : List Step) (nu
       added_to_both IsSame (trace.verdicts_of bound before) (trace.verdicts_of bound recorded) (verdicts_in past)
       (verdicts_in run) numbers alike last
       (option_to_list (trace.verdict bound recorded e))
-      (option_to_list (option_map (λ f. let r : Report = record { number = length (events_of run) + 1; fault = f } in r)
-      (fault_in run e)))
+      (option_to_list (option_map
+      (λ f. let r : Report = record { number = length (events_of run) + 1; fault = f } in r) (fault_in run e)))
       (both_say IsSame (numbers ++ last ∷ []) (length recorded + 1) (length (events_of run) + 1) shadow_bytes
       (Contains-push numbers last) (trace.fault_of bound recorded e) (fault_in run e)
       (say_the_same (IsSame shadow_bytes) (λ f. refl) _ _ same))

@@ -1,15 +1,13 @@
 -- What the parts of a statement bring, in a history of their own, and what an access finds then.
 use Rattle.std.proofs.Common.{◌≡◌, ℕ, ◌+◌, ◌-◌, ◌*◌, ◌/◌, ◌≤◌, ◌<◌, ◌⊎◌, Bool, true, false, cond, List, [], ◌∷◌, ◌++◌}
-use Rattle.std.proofs.Common.{refl, sym, ap, subst, ◌∙◌, arith, inl, inr, Some, None}
-use Rattle.std.specs.Prelude.{min, IsSome}
+use Rattle.std.proofs.Common.{refl, sym, ap, subst, ◌∙◌, arith, inl, inr}
+use Rattle.std.specs.Prelude.{min}
 use Rattle.std.proofs.lemmas.Bool.{false≢true}
 use Rattle.std.proofs.lemmas.Bool.Decides.{nat_tests}
 use Rattle.std.proofs.lemmas.List.{append-nil}
 use Rattle.trace_record.specs.declared.event.Event.{Event}
 use Rattle.trace_record.specs.declared.event.Event.TheVariants as event
 use Rattle.trace_record.specs.declared.event.Access.{Access}
-use Rattle.trace_record.specs.declared.event.Place.{Place}
-use Rattle.trace_record.specs.declared.event.Region.{Region}
 use Rattle.trace_record.specs.declared.shade.Shade.{Shade}
 use Rattle.trace_record.specs.Shades.{shade_size, shade_kind}
 use Rattle.shadow_map.specs.States.{state_of, lift}
@@ -200,6 +198,7 @@ poison_next bound s granule to here next at end kind some case =
   where
     front_most : (shadow : ℕ) → front_of shadow ≤ 8
     front_most shadow = grind (arith, nat_tests)
+
     up_to_end : ((0 < front_of next) × (to ≡ granule + 1))
         ⊎ ((front_of next ≡ 0) × (to ≡ granule + 2) × (as_recorded next ≡ next) × (is_of_heap next ≡ false))
         → min 8 (s.at + shade_size s - 8 * granule) ≡ 8

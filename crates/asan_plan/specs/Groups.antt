@@ -1,5 +1,5 @@
--- Recordings in groups: each bad event of a run is recorded after what states the memory there, in a
--- history of its own.
+-- Recordings in groups: each bad event of a run is recorded after what states the memory there, in
+-- a history of its own.
 use Rattle.std.specs.Prelude.{◌≡◌, ℕ, ◌+◌, false, Bool, List, [], ◌∷◌, ◌++◌, length, None}
 use Rattle.std.specs.List.{list_any}
 use Rattle.trace_record.specs.declared.event.Event.{Event}
@@ -70,8 +70,8 @@ group_numbers (again e stated recorded run on same way) =
 abbrev pub IsSame : Detail → Fault → Fault → Type 0
 IsSame detail one other = one ≡ other
 
--- since a recording began, the same is reported of its events as of the run: the same faults, in the
--- same order, and each report on the same event
+-- since a recording began, the same is reported of its events as of the run: the same faults, in
+-- the same order, and each report on the same event
 abbrev pub HasReportsOfRun : ℕ → List (ℕ × ℕ × Detail)
     → List Event → List Step → List Event → List Step → Type 0
 HasReportsOfRun bound numbers before past recorded run =

@@ -112,8 +112,8 @@ IsFit granule had has (shading.Poison s) =
 IsFit granule had has (shading.Unpoison r) =
     (had < has) × (r.at ≡ first_byte granule) × (r.size ≡ has)
 
--- these events are a history in which nothing is wrong. It has this shadow byte in a granule and, if
--- that has an addressable byte, one of the same class as this in the next
+-- these events are a history in which nothing is wrong. It has this shadow byte in a granule and,
+-- if that has an addressable byte, one of the same class as this in the next
 pub record BringsThere (bound granule here next : ℕ) (events : List Event) : Type 0 where
   pub one_history : IsOneHistory events
   pub quiet : verdicts_of bound events ≡ []

@@ -31,6 +31,7 @@ const FREED: u8 = 0xfd;
 const USER_POISON: u8 = 0xf7;
 /// Those of redzones on the stack and beside globals.
 const STACK_REDZONE: u8 = 0xf2;
+
 const GLOBAL_REDZONE: u8 = 0xf9;
 
 /// A block that was found, and whether it was freed: then the process holds it still.
@@ -115,8 +116,7 @@ fn has_left(found: &Around, granule: u64, shadow: u8) -> bool
         left_by (block_of found.now.region) found.now.is_held granule ≡ shadow }
 {
     let region = &found.region;
-    is_placed(region)
-        && left_byte(region.at(), region.size(), found.is_held, 0, granule) == shadow
+    is_placed(region) && left_byte(region.at(), region.size(), found.is_held, 0, granule) == shadow
 }
 
 /// A block that leaves this byte in a granule: it lies there, or has no bytes and its first redzone
@@ -263,15 +263,19 @@ fn say_by_poison(granule: u64, here: u8, next: u8) -> Said
     requires other { is_of_heap next ≡ false }
     ensures { (bound : ℕ) → BringsThere bound granule here next (said_events result) }
 {
-    let to = if front(next) > 0 { granule + 1 } else { granule + 2 };
+    let to = if front(next) > 0 {
+        granule + 1
+    } else {
+        granule + 2
+    };
     Said {
         block: Stated::Nothing,
         shading: Shading::Poison(poison(granule, front(here), to, next)),
     }
 }
 
-/// What has to be stated before a bad access, so that it finds in a history of its own what it finds
-/// in the run: by the shadow bytes of the granule of its first byte and of the next one, and by the
+/// What has to be stated before a bad access, so that it finds in a history of its own what it
+/// finds in the run: by the shadow bytes of the granule of its first byte and of the next one, and by the
 /// block that was found there, if there was one. A block that has not left the byte that says the
 /// class is passed over: another one is made up. So what is stated is right whatever was found.
 pub fn say_access(granule: u64, here: u8, next: u8, found: Option<Around>) -> Said

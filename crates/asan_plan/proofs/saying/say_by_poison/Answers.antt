@@ -1,4 +1,4 @@
-use Rattle.std.proofs.Common.{inl, inr, arith, sym, ap, ◌∙◌}
+use Rattle.std.proofs.Common.{inl, inr, arith}
 use Rattle.asan_plan.proofs.Stating.{poison_next}
 use Rattle.asan_plan.proofs.saying.say_by_poison.Goals.{then-front-gt0, else-front-gt0}
 use Rattle.asan_plan.proofs.saying.say_by_poison.Goals as goal
