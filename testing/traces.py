@@ -11,19 +11,21 @@ from typing import List, NamedTuple, Optional
 
 LOAD, STORE, MALLOC, FREE, POISON, UNPOISON = range(1, 7)
 CLOSE = b"\x07"
+ANEW = 8
 
-HEADER, HEADER_2 = (struct.pack("<4sI", b"ASTR", version) for version in (1, 2))
+HEADER, HEADER_2, HEADER_3 = (struct.pack("<4sI", b"ASTR", version) for version in (1, 2, 3))
 HEADERS = {1: HEADER, 2: HEADER_2}
 
 # The largest region that is no flaw in version 1.
 MAX_OF_VERSION_1 = 1 << 28
 
 # A record: its code, and its numbers.
-ACCESS, REGION, PLACE, SHADE = (struct.Struct(f"<B{numbers}") for numbers in ("BQ", "QQ", "Q", "BQQ"))
+ACCESS, REGION, PLACE, SHADE, ALONE = (struct.Struct(f"<B{numbers}") for numbers in ("BQ", "QQ", "Q", "BQQ", ""))
 LAYOUTS = {
     version: {LOAD: ACCESS, STORE: ACCESS, MALLOC: REGION, FREE: PLACE, POISON: poison, UNPOISON: REGION}
-    for version, poison in ((1, REGION), (2, SHADE))
+    for version, poison in ((1, REGION), (2, SHADE), (3, SHADE))
 }
+LAYOUTS[3][ANEW] = ALONE
 
 
 # ---- records and traces that are built
@@ -62,7 +64,7 @@ class Event(NamedTuple):
     """A record. `size` is the width of a load or a store, and 0 of a free. `kind` is of a poison."""
 
     code: int
-    at: int
+    at: int = 0
     size: int = 0
     kind: int = 0
 
@@ -102,7 +104,8 @@ class Reading(NamedTuple):
 
 
 def version_of(trace: bytes) -> int:
-    return next((version for version, header in HEADERS.items() if trace[:8] == header), 0)
+    headers = {**HEADERS, 3: HEADER_3}
+    return next((version for version, header in headers.items() if trace[:8] == header), 0)
 
 
 def layout_at(trace: bytes, at: int, version: int) -> Optional[struct.Struct]:

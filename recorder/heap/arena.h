@@ -88,7 +88,7 @@ enum unit_form {
 };
 
 struct unit {
-    uint8_t kind;
+    _Alignas(8) uint8_t kind;
     uint8_t stale;  /* the period since which it has old bytes; 0: it got new memory, of zeros */
     uint16_t lead;  /* of a slab: how many bytes come before its first slot */
     uint32_t count; /* of a run or a free run: its units; in its body or at its end: how far back it begins; of a slab:
@@ -103,7 +103,6 @@ struct unit {
     };
     /* Of a slab of a shard. */
     uint32_t left;  /* its slots that are not freed, and one more while it is open; atomic */
-    uint32_t turns; /* how often it was opened */
     uint32_t listed_before, listed_next; /* among those that may be used again; 0 is none */
     uint32_t dead;  /* how many of its pages are counted as dead (retiring.c) */
     uint16_t given; /* a bit for each page that was given back */

@@ -136,10 +136,14 @@ static inline unsigned addressable_of(unsigned char shade)
 }
 
 /* The check of the compilers, which is the collector's too: the granule of the first byte decides. */
+static inline bool shade_is_bad(unsigned shade, uint64_t address, unsigned width)
+{
+    return shade != 0 && (shade >= GRANULE || address % GRANULE + width > shade);
+}
+
 static inline bool shadow_is_bad(uint64_t address, unsigned width)
 {
-    unsigned shade = *shadow_of(address);
-    return shade != 0 && (shade >= GRANULE || address % GRANULE + width > shade);
+    return shade_is_bad(*shadow_of(address), address, width);
 }
 
 /* A redzone of a frame, or a variable whose scope has ended. */
@@ -147,6 +151,17 @@ static inline bool is_of_frame(unsigned char shade)
 {
     return (shade >= SHADE_LEFT && shade <= SHADE_RETURNED) || shade == SHADE_SCOPE || shade == SHADE_ALLOCA_LEFT
            || shade == SHADE_ALLOCA_RIGHT;
+}
+
+/* The byte that a block leaves in a granule of its span. */
+static inline unsigned char shade_of_block(uintptr_t start, size_t size, bool is_held, uintptr_t granule)
+{
+    uintptr_t end = start + size;
+    if (granule < start || granule >= end)
+        return SHADE_HEAP;
+    if (is_held)
+        return SHADE_FREED;
+    return end - granule < GRANULE ? (unsigned char)(end - granule) : 0;
 }
 
 /* Whether an access meets the redzone of a frame that lies in a block: of a coroutine, or of a thread or a handler with

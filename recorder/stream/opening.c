@@ -14,6 +14,7 @@
 #include "environment/stale_trace.h"
 #include "environment/hub_word.h"
 #include "stream/faults.h"
+#include "stream/group.h"
 #include "stream/growing.h"
 #include "stream/held.h"
 #include "stream/locked.h"
@@ -167,6 +168,7 @@ void opening_segment(void)
     atomic_store(&shared.is_cut, false);
     atomic_store(&shared.is_closed_off, false);
     atomic_store(&shared.is_side_full, false);
+    group_forget();
     sending_begin();
     memcpy(locked.trace.bytes, HEADER, HEADER_LENGTH);
     if (!locked.has_side)

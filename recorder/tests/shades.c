@@ -97,9 +97,9 @@ static void compare_block(const unsigned char *before, size_t count, uint64_t at
         compare("free", at, size, i, memory[i], asan_shades_left_byte(at, size, true, before[i], i));
         uint64_t granule = i * GRANULE;
         if (granule < at - REDZONE || granule >= at - REDZONE + span_bytes(size))
-            continue; /* byte_of is of a granule of the block's span */
+            continue; /* shade_of_block is of a granule of the block's span */
         for (unsigned is_held = 0; is_held < 2; is_held++)
-            compare("byte_of", at, size, i, byte_of(at, size, is_held, granule),
+            compare("shade_of_block", at, size, i, shade_of_block(at, size, is_held, granule),
                     asan_shades_left_byte(at, size, is_held, before[i], i));
     }
     paint_released(at, size);
