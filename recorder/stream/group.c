@@ -6,6 +6,7 @@
 
 #include <string.h>
 
+#include "base/disturbance.h"
 #include "shadow/shadow.h"
 #include "stream/faults.h"
 #include "stream/side.h"
@@ -167,8 +168,9 @@ static enum taking take(const struct group *group, struct moment moment, bool is
     return is_unusual(*cursor, &rest->shape) ? stream_open_group(*cursor, &rest->shape, is_of_heap) : TAKING_DONE;
 }
 
-enum taking group_record(const struct group *group, uint32_t entry, struct moment moment, bool is_of_heap,
-                         struct place *place)
+/* From the place to its bytes. */
+static enum taking put(const struct group *group, uint32_t entry, struct moment moment, bool is_of_heap,
+                       struct place *place)
 {
     struct rest rest;
     uint64_t cursor;
@@ -190,4 +192,17 @@ enum taking group_record(const struct group *group, uint32_t entry, struct momen
     note_said(group, group->shape.length - group->shape.lengths[group->shape.count - 1U], cursor + step_of(&rest.shape));
     place->at = at;
     return TAKING_DONE;
+}
+
+enum taking group_record(const struct group *group, uint32_t entry, struct moment moment, bool is_of_heap,
+                         struct place *place)
+{
+    struct disturbance before;
+    if (group->shape.count == 1)
+        return put(group, entry, moment, is_of_heap, place);
+    /* A handler that left by a jump would leave a hole, whose length nobody knew. */
+    undisturbed_begin(&before);
+    enum taking taking = put(group, entry, moment, is_of_heap, place);
+    undisturbed_end(&before);
+    return taking;
 }

@@ -109,15 +109,29 @@ static const struct shape lean_shapes[] = {
 #undef GROUP
 };
 
+/* Whether what stands in the place of a group is of this shape, or not there yet. */
+static bool fits(const struct shape *shape, uint64_t offset)
+{
+    for (unsigned i = 1; i < shape->count; i++) {
+        offset += shape->lengths[i - 1];
+        unsigned char code = code_at(offset);
+        if (code != CODE_NONE && record_length(code) != shape->lengths[i])
+            return false;
+    }
+    return true;
+}
+
 /* A record that was begun and will never be written, as when a signal handler left by a jump, or a group of them: puts
-   there what says nothing. Answers its shape; null where that can't be known, or if it was written now. */
+   there what says nothing. Answers its shape; null where that can't be known, or if it was written now. In a lean
+   recording no other one may be missing next to it: groups have many lengths, and nobody jumps out of one. */
 static const struct shape *fill_hole(uint64_t offset, uint64_t end, int most_holes)
 {
-    const struct shape *all = is_lean() ? lean_shapes : shapes;
-    unsigned count = is_lean() ? sizeof lean_shapes / sizeof *all : sizeof shapes / sizeof *all;
+    bool is_of_lean = is_lean();
+    const struct shape *all = is_of_lean ? lean_shapes : shapes;
+    unsigned count = is_of_lean ? sizeof lean_shapes / sizeof *all : sizeof shapes / sizeof *all;
     for (unsigned i = 0; i < count; i++) {
-        unsigned length = all[i].length;
-        if (offset + length > end || !looks_sound(offset + length, end, most_holes))
+        uint64_t next = offset + all[i].length;
+        if (next > end || !fits(&all[i], offset) || !looks_sound(next, end, is_of_lean ? 0 : most_holes))
             continue;
         if (!claim(offset, filler(all[i].lengths[0])))
             return NULL;

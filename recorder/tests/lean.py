@@ -163,8 +163,9 @@ def check_joined(suite: Suite, folder: str, program: str) -> None:
 
 
 def shadows_found(suite: Suite, folder: str, program: str, words: str) -> Tuple[Dict[int, int], List[str]]:
-    """How often each shadow byte was found in the place of another one, and the words of each finding."""
-    record(suite, folder, [program, *words.split()], ONE, ASANCOL_FULL="0", ASANCOL_WHERE="1")
+    """How often each shadow byte was found in the place of another one, and the words of each finding. In a segment
+    all of a place are one."""
+    record(suite, folder, [program, *words.split()], 16, ASANCOL_FULL="0", ASANCOL_WHERE="1")
     found: Dict[int, int] = {}
     texts = []
     for path in sorted(glob.glob(f"{folder}/t*.trace"), key=lambda it: ("segment" in it, it)):

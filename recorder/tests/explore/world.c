@@ -33,6 +33,7 @@
 #include "stream/opening.h"
 #include "stream/own_place.h"
 #include "stream/record.h"
+#include "stream/saying.h"
 #include "stream/side.h"
 #include "stream/suspending.h"
 #include "environment/dormant.h"
@@ -76,32 +77,40 @@ struct scenario {
     bool jumps;        /* and leaves by a jump */
     unsigned preemptions, runs; /* as much as a usual test has time for */
     unsigned held;              /* blocks in the quarantine */
+    bool is_lean;               /* each bad access begins a history, and good ones are left out */
     enum step steps[MAX_THREADS][MAX_STEPS];
 };
 
 static const struct scenario scenarios[] = {
-    {"bad accesses", 4, false, 0, false, 2, 20000, 0, {{BAD, BAD, BAD}, {BAD, BAD, BAD}}},
-    {"bad accesses of three", 4, false, 0, false, 2, 20000, 0, {{BAD, BAD}, {BAD, BAD}, {BAD, BAD}}},
-    {"good and bad accesses", 3, false, 0, false, 2, 20000, 0, {{GOOD, BAD, GOOD, BAD}, {GOOD, GOOD, BAD}}},
-    {"poison in a block", 8, false, 0, false, 2, 20000, 0,
+    {"bad accesses", 4, false, 0, false, 2, 20000, 0, false, {{BAD, BAD, BAD}, {BAD, BAD, BAD}}},
+    {"bad accesses of three", 4, false, 0, false, 2, 20000, 0, false, {{BAD, BAD}, {BAD, BAD}, {BAD, BAD}}},
+    {"good and bad accesses", 3, false, 0, false, 2, 20000, 0, false, {{GOOD, BAD, GOOD, BAD}, {GOOD, GOOD, BAD}}},
+    {"poison in a block", 8, false, 0, false, 2, 20000, 0, false,
      {{POISON, STORE, UNPOISON, POISON, STORE}, {POISON, STORE, UNPOISON}}},
-    {"bad frees", 3, false, 0, false, 2, 20000, 0, {{FREE, FREE, FREE}, {FREE, BAD}}},
-    {"time", 4, true, 0, false, 2, 20000, 0, {{BAD, BAD, BAD}, {BAD, BAD}}},
-    {"handlers", 4, false, 2, false, 2, 20000, 0, {{BAD, BAD, BAD}, {BAD}}},
-    {"handlers that jump", 4, true, 2, true, 2, 20000, 0, {{BAD, BAD, BAD}, {BAD, BAD}}},
-    {"an exec that fails", 4, false, 0, false, 2, 20000, 0, {{BAD, EXEC, BAD}, {BAD, BAD, BAD}}},
-    {"an exit", 4, false, 0, false, 2, 20000, 0, {{BAD, CLOSE, BAD}, {BAD, BAD, BAD}}},
-    {"an end", 4, false, 0, false, 3, 20000, 0, {{BAD, END}, {BAD, BAD, BAD}}},
-    {"an end by a signal", 4, true, 0, false, 2, 20000, 0, {{BAD, KILLED}, {BAD, BAD, BAD}}},
-    {"two events a segment", 2, false, 0, false, 2, 20000, 0, {{GOOD, GOOD, GOOD, GOOD, GOOD, GOOD}, {GOOD, GOOD}}},
-    {"poison during a snapshot", 32, false, 0, false, 2, 20000, MAX_HELD,
+    {"bad frees", 3, false, 0, false, 2, 20000, 0, false, {{FREE, FREE, FREE}, {FREE, BAD}}},
+    {"time", 4, true, 0, false, 2, 20000, 0, false, {{BAD, BAD, BAD}, {BAD, BAD}}},
+    {"handlers", 4, false, 2, false, 2, 20000, 0, false, {{BAD, BAD, BAD}, {BAD}}},
+    {"handlers that jump", 4, true, 2, true, 2, 20000, 0, false, {{BAD, BAD, BAD}, {BAD, BAD}}},
+    {"an exec that fails", 4, false, 0, false, 2, 20000, 0, false, {{BAD, EXEC, BAD}, {BAD, BAD, BAD}}},
+    {"an exit", 4, false, 0, false, 2, 20000, 0, false, {{BAD, CLOSE, BAD}, {BAD, BAD, BAD}}},
+    {"an end", 4, false, 0, false, 3, 20000, 0, false, {{BAD, END}, {BAD, BAD, BAD}}},
+    {"an end by a signal", 4, true, 0, false, 2, 20000, 0, false, {{BAD, KILLED}, {BAD, BAD, BAD}}},
+    {"two events a segment", 2, false, 0, false, 2, 20000, 0, false, {{GOOD, GOOD, GOOD, GOOD, GOOD, GOOD}, {GOOD, GOOD}}},
+    {"poison during a snapshot", 32, false, 0, false, 2, 20000, MAX_HELD, false,
      {{POISON, UNPOISON, POISON},
       {BAD, BAD, BAD, BAD, BAD, BAD, BAD, BAD, BAD, BAD, BAD, BAD, BAD, BAD, BAD, POISON}}},
-    {"at the limit", 1000, false, 0, false, 2, 20000, 0, {{BAD, BAD}, {BAD, BAD}}},
-    {"a fork", 32, false, 0, false, 2, 3000, 0, {{BAD, FORK, GOOD, BAD}, {POISON, STORE, BAD, UNPOISON, BAD}}},
-    {"a fork at a switch", 4, false, 0, false, 2, 3000, 0, {{BAD, BAD, FORK, BAD}, {BAD, GOOD, BAD, BAD}}},
-    {"a fork that no handler sees", 4, false, 0, false, 2, 3000, 0, {{BAD, RAW_FORK, BAD}, {BAD, BAD, BAD, BAD}}},
-    {"a fork in the middle of an exec", 4, false, 0, false, 2, 3000, 0, {{RAW_FORK, BAD}, {EXEC, BAD, EXEC}}},
+    {"at the limit", 1000, false, 0, false, 2, 20000, 0, false, {{BAD, BAD}, {BAD, BAD}}},
+    {"a fork", 32, false, 0, false, 2, 3000, 0, false, {{BAD, FORK, GOOD, BAD}, {POISON, STORE, BAD, UNPOISON, BAD}}},
+    {"a fork at a switch", 4, false, 0, false, 2, 3000, 0, false, {{BAD, BAD, FORK, BAD}, {BAD, GOOD, BAD, BAD}}},
+    {"a fork that no handler sees", 4, false, 0, false, 2, 3000, 0, false, {{BAD, RAW_FORK, BAD}, {BAD, BAD, BAD, BAD}}},
+    {"a fork in the middle of an exec", 4, false, 0, false, 2, 3000, 0, false, {{RAW_FORK, BAD}, {EXEC, BAD, EXEC}}},
+    {"lean accesses", 4, false, 0, false, 2, 20000, 0, true, {{BAD, BAD, BAD}, {BAD, BAD, BAD}}},
+    {"lean accesses of three", 7, false, 0, false, 2, 20000, 0, true, {{BAD, BAD}, {BAD, BAD}, {BAD, BAD}}},
+    {"lean accesses and frees", 6, false, 0, false, 2, 20000, 0, true, {{BAD, FREE, FREE, BAD}, {FREE, BAD}}},
+    {"lean handlers that jump", 8, true, 2, true, 2, 20000, 0, true, {{BAD, BAD, BAD}, {BAD, BAD}}},
+    {"lean, at an exit", 5, false, 0, false, 2, 20000, 0, true, {{BAD, CLOSE, BAD}, {BAD, BAD, BAD}}},
+    {"lean, of a thread that sleeps", 8, true, 0, false, 2, 20000, 0, true, {{BAD, BAD, FREE}, {BAD, BAD}}},
+    {"lean, at a fork", 5, false, 0, false, 2, 3000, 0, true, {{BAD, BAD, FORK, BAD}, {BAD, BAD, BAD}}},
 };
 
 static const struct scenario *scenario;
@@ -194,8 +203,9 @@ void side_note_left_good(void) {}
 void side_note_finding_lost(void) {}
 void finding_note_call(const struct wrong_call *wrong) { (void)wrong; }
 void side_note_skipped(uint64_t what) { (void)what; }
-void side_note_stated(void)
+void side_note_stated(uint64_t events)
 {
+    (void)events;
 }
 void side_note_ending(enum ending ending, int number, uint64_t events)
 {
@@ -257,6 +267,16 @@ static void say_child(void)
     world.said_child++;
 }
 static void do_nothing(void) {}
+static void find_state(struct found *found) { found->has_block = false; }
+static bool find_freed(uint64_t address, struct found *found)
+{
+    found->has_block = false;
+    return address != 0;
+}
+static struct difference find_difference(uint64_t address)
+{
+    return (struct difference){.granule = address & 0};
+}
 static bool has_block(unsigned thread)
 {
     for (unsigned i = 0; i < MAX_STEPS; i++)
@@ -298,8 +318,6 @@ void quarantine_release_oldest(void)
     heap.oldest = heap.oldest->next;
     heap.held_count--;
 }
-/* All of it is recorded. */
-void book_forget(void) {}
 const struct above above = {
     .lock_heap = heap_lock,
     .unlock_heap = heap_unlock,
@@ -307,6 +325,9 @@ const struct above above = {
     .snapshot = heap_snapshot,
     .hold = hold,
     .poisons_in_heap = do_nothing,
+    .find_state = find_state,
+    .find_freed = find_freed,
+    .find_difference = find_difference,
     .say_child = say_child,
 };
 void shadow_poison(uint64_t address, uint64_t size, unsigned char code)
@@ -459,12 +480,7 @@ bool output_lose(struct output *output, const void *address)
 
 int explore_madvise(const volatile void *address, size_t size, int advice)
 {
-    (void)size;
-    if (advice == MADV_DONTNEED && address == (const void *)STATED_START) {
-        EXPLORE_POINT("nothing is stated");
-        memset((void *)stated_of(BAD_AT), 0, PAGE / GRANULE);
-        explore_changed();
-    }
+    (void)address, (void)size, (void)advice;
     return 0;
 }
 
@@ -500,6 +516,13 @@ static void record(unsigned thread, enum step step, unsigned number)
 
 static struct settings settings;
 
+static bool begin_stream(void)
+{
+    bool has_begun = stream_begin(&settings);
+    atomic_store(&lean_is_on, scenario->is_lean);
+    return has_begun;
+}
+
 /* As after_fork_in_child in process.c. */
 static void begin_child(enum state before)
 {
@@ -508,7 +531,7 @@ static void begin_child(enum state before)
     stream_forget();
     stream_unlock();
     undisturbed_begin(&disturbance);
-    if (is_recorded && !stream_begin(&settings))
+    if (is_recorded && !begin_stream())
         explore_fail("the beginning of a child");
     if (is_recorded)
         heap_snapshot(1, stream_snapshot_room());
@@ -516,13 +539,12 @@ static void begin_child(enum state before)
     heap_unlock();
 }
 
-/* A child begins with a stream page of zeros, and nothing is stated. What it records is in its own files alone. */
+/* A child begins with a stream page of zeros. What it records is in its own files alone. */
 static void be_child(unsigned thread, enum child child)
 {
     explore_stay_alone();
     enum state before = stream_state();
     memset(&stream_page, 0, sizeof stream_page);
-    memset((void *)stated_of(BAD_AT), 0, PAGE / GRANULE);
     world.child = child;
     world.first_file = world.file_count;
     world.has_ended = before != STATE_RECORDING && before != STATE_AT_LIMIT;
@@ -531,7 +553,7 @@ static void be_child(unsigned thread, enum child child)
     if (child == CHILD)
         begin_child(before);
     for (unsigned number = 0; number < CHILD_EVENTS; number++)
-        record(thread, number % 2 == 0 ? BAD : GOOD, number);
+        record(thread, number % 2 == 0 || scenario->is_lean ? BAD : GOOD, number);
 }
 
 /* The bytes of the files that are open. */
@@ -641,12 +663,11 @@ void world_begin(void)
     settings = (struct settings){.trace = "t.trace", .limit = scenario->limit, .segments = ALL_SEGMENTS,
                                  .with_side = true, .patience_ms = 1, .is_full = true};
     memset((void *)shadow_of(BAD_AT), 0, PAGE / GRANULE);
-    memset((void *)stated_of(BAD_AT), 0, PAGE / GRANULE);
     memset((void *)shadow_of(BLOCK_AT), 0, PAGE / GRANULE);
     for (unsigned line = 0; line < LINES; line++)
         *shadow_of(BAD_AT + line * APART) = SHADE_RIGHT;
     heap_begin();
-    if (!stream_begin(&settings))
+    if (!begin_stream())
         explore_fail("the beginning");
     heap_snapshot(UINT64_MAX, stream_snapshot_room());
 }
@@ -703,6 +724,10 @@ static uint64_t number_at(const unsigned char *at)
 static void look_at_record(struct view *view, const unsigned char *at, unsigned segment)
 {
     bool is_access = *at == CODE_LOAD || *at == CODE_STORE;
+    if (*at == CODE_ANEW) {
+        memset(view, 0, sizeof *view);
+        return;
+    }
     uint64_t address = number_at(at + (is_access || *at == CODE_POISON ? 2 : 1));
     if (address == 0)
         return; /* it says nothing */
@@ -756,13 +781,14 @@ static void look_at_segment(unsigned segment)
 
 static void list_segment(unsigned segment)
 {
-    static const char *const names[] = {"none", "load", "store", "malloc", "free", "poison", "unpoison"};
+    static const char *const names[] = {"none", "load", "store", "malloc", "free", "poison", "unpoison", "close", "anew"};
     const struct file *file = &world.files[segment];
     size_t end = file->length <= FILE_ROOM ? end_of(file) : 0;
     printf("  segment %u%s:", segment, is_closed(file) ? "" : " without a close");
     for (size_t at = HEADER_LENGTH; at < end; at += record_length(file->bytes[at])) {
         unsigned offset = record_length(file->bytes[at]) == ACCESS_LENGTH || file->bytes[at] == CODE_POISON ? 2 : 1;
-        printf(" %s %llx", names[file->bytes[at]], (unsigned long long)number_at(file->bytes + at + offset));
+        bool is_anew = file->bytes[at] == CODE_ANEW;
+        printf(" %s %llx", names[file->bytes[at]], is_anew ? 0ULL : (unsigned long long)number_at(file->bytes + at + offset));
     }
     printf("\n");
 }
@@ -867,7 +893,6 @@ int main(int count, char **argv)
     if (search.is_random && search.rareness == 0)
         search.rareness = 8;
     map_at(shadow_of(BAD_AT));
-    map_at(stated_of(BAD_AT));
     map_at(shadow_of(BLOCK_AT));
     memory_of_windows = mmap(NULL, (size_t)WINDOWS << WINDOW_SHIFT, PROT_READ | PROT_WRITE,
                              MAP_SHARED | MAP_ANONYMOUS | MAP_NORESERVE, -1, 0);

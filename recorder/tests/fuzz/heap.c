@@ -300,7 +300,7 @@ static void look_at_all(bool is_in_order)
 static void be_in_the_middle(struct thread *me, struct mark *block, uint64_t step)
 {
     heap_lock();
-    expect(heap_is_entered() && heap_is_locked_here(), "that it is entered");
+    expect(heap_is_entered(), "that it is entered");
     void *spare = heap_allocate(100, ALIGNMENT, false, 1);
     expect(spare != NULL && heap_live_size(spare) == 100, "spare memory");
     heap_give_back(spare, 1);
