@@ -41,7 +41,6 @@ class Decisions(NamedTuple):
 ALL = [
     Decisions("asan_judgement_c", ["run/tests/judged.c", "run/status.c"], "run", has_table=True),
     Decisions("asan_shades_c", ["recorder/tests/shades.c"], "recorder"),
-    Decisions("asan_plan_c", ["recorder/tests/plans.c"], "recorder"),
 ]
 
 

@@ -170,8 +170,7 @@ static void *place_block(size_t size, size_t alignment, struct origin from, cons
         return (void *)address;
     }
     SET_NOTE(block->size, (uint32_t)size);
-    SET_NOTE(block->alignment, use->alignment); /* so it is not settled any more */
-    atomic_thread_fence(memory_order_release);
+    SET_NOTE(block->alignment, use->alignment);
     if (!heap.is_unpainted)
         paint_redzones(address, size);
     populate(block, address, size);
@@ -180,7 +179,6 @@ static void *place_block(size_t size, size_t alignment, struct origin from, cons
         paint_live(address, size);
     /* The record may be the first of a segment, whose snapshot has the live blocks: this one was not live yet. And of a
        live block the shadow is whole (differing.c). */
-    atomic_thread_fence(memory_order_release);
     block_go(block, BLOCK_LIVE);
     return (void *)address;
 }
@@ -197,14 +195,13 @@ static inline __attribute__((always_inline)) void *place_in_slot(struct shard *s
         return NULL;
     note_allocated(slot.block, from);
     SET_NOTE(slot.block->size, (uint32_t)size);
-    SET_NOTE(slot.block->alignment, use->alignment); /* so it is not settled any more */
+    SET_NOTE(slot.block->alignment, use->alignment);
     note_left_out(shard);
-    atomic_thread_fence(memory_order_release);
     if (!heap.is_unpainted)
         paint_redzones(address, size);
     if (!heap.is_unpainted)
         paint_live(address, size);
-    atomic_thread_fence(memory_order_release); /* of a live block the shadow is whole (differing.c) */
+    /* Of a live block the shadow is whole (differing.c). */
     block_write(slot.block, notes_on(BLOCK_LIVE, REDZONE, use));
     return (void *)address;
 }

@@ -7,8 +7,8 @@
    arena_clear, of memory that the thread has; arena_keep_call_sites by numbers.c with all. Who writes notes by
    unit_write, block_write and block_go has those, or is in its shard, for a unit or a block of that. The other
    functions with a body here need none. The last three (nearest.c) need none either, since they read notes by
-   NOTE_NOW: by book.c and differing.c with the allocator's, by stream/near.c (`above`, stream/state.h), interface/,
-   report/describing.c, report/wording.c and leaks/ with or without: in any thread, also in a handler. */
+   NOTE_NOW: by finding.c, differing.c, stream/near.c (`above`, stream/state.h), interface/, report/describing.c,
+   report/wording.c and leaks/, in any thread, also in a handler. */
 #ifndef ASANCOL_ARENA_H
 #define ASANCOL_ARENA_H
 
@@ -203,9 +203,10 @@ static inline void unit_write(uint32_t number, struct unit value)
     SET_NOTE(unit->used, value.used);
 }
 
+/* What was painted before is seen with it. */
 static inline void block_write(struct block *block, struct block now)
 {
-    SET_NOTE(block->all_bits, now.all_bits);
+    __atomic_store_n(&block->all_bits, now.all_bits, __ATOMIC_RELEASE);
 }
 
 static inline void block_go(struct block *block, enum block_state state)

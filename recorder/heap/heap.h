@@ -38,8 +38,8 @@ void heap_left_by_jump(uintptr_t target);
 void heap_ends_here(void);
 /* Records what stands: a malloc for each block that is live, a malloc and a free for each that is held, and poison
    for released memory and the process's own poison. Of the held blocks the oldest are released until at most this
-   many are held and the events fit into the room. In lean recording nothing is recorded, and the book is empty then
-   (book.h). The heap is locked. (process/process.c, stream/switching.c) */
+   many are held and the events fit into the room. In lean recording nothing is recorded. The heap is
+   locked. (process/process.c, stream/switching.c) */
 void heap_snapshot(uint64_t most_held, uint64_t room);
 /* Whether the shadow shows the state of blocks from now on (process/process.c). If nothing is recorded it need not, */
 void heap_paint(bool is_painted);

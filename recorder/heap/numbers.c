@@ -43,8 +43,7 @@ static void clear(uint32_t from, uint32_t to)
 void heap_paint(bool is_painted)
 {
     bool is_entered = heap_enter_all();
-    heap.is_unpainted = !is_painted;
-    atomic_thread_fence(memory_order_seq_cst);
+    heap.is_unpainted = !is_painted; /* first: who compares the shadow sees that it is none */
     if (!is_painted && arena.bytes != NULL) {
         clear(0, arena.committed);
         clear(FIRST_BIG, arena.big_top);

@@ -239,6 +239,9 @@ static struct block *next_free_slot(struct slab *slab)
     while (slab->next < slab->end) {
         struct block *block = block_at(slab->unit, slab->next++);
         if (is_settled(block)) {
+            SET_NOTE(block->settled, 0); /* before it is painted as another block (differing.c) */
+            atomic_signal_fence(memory_order_release);
+            PROCESSOR_STAYS_BEHIND;
             count_up(slab->unit);
             return block;
         }

@@ -480,7 +480,6 @@ void recorder_child_begins(void)
         say_unrecorded(why_unrecorded());
         recorded = false;
     }
-    shadow_forked();
     if (!recorded || !begin(HELD_BY_CHILD)) {
         be_idle();
     }

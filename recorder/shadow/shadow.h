@@ -7,10 +7,8 @@
    here must be addressable there, at the place that a record of the access would have. Being stricter
    costs a record, and no verdict.
 
-   Of memory outside the allocator's the stream says nothing until an access comes that the check flags. A
-   second map of the same form, `stated`, has the byte that the stream states of each granule there. Where the two
-   differ, the stream is brought up before the access is recorded (stated.c). So a frame whose redzones nobody comes
-   near costs nothing, and a stream that begins later begins with a map of zeros.
+   Of memory outside the allocator's the stream says nothing until an access comes that the check flags: its record
+   comes with what states the bytes there (stream/group.h). So a frame whose redzones nobody comes near costs nothing.
 
    Called: by compiled code, which reads and writes it, and by any file, in any thread, also in a handler. No lock:
    who writes owns the memory, and who reads may see the byte before or after. Of the notes in shadow.c,
@@ -28,18 +26,17 @@
 #include "common/format.h"
 #include "common/shades.h"
 
-/* Where the maps lie is a matter of the processor (processor.h): in the place of AddressSanitizer's, the allocator's
-   memory after it, and then `stated`. */
+/* Where it lies is a matter of the processor (processor.h): in the place of AddressSanitizer's, and the allocator's
+   memory after it. */
 #define SHADOW_BYTES (MEMORY_END / GRANULE)
 
 #if MEMORY_VARIES
 
 /* Traces have addresses of 47 bits, so one of 48 is spelled without its upper bit. No two pieces of memory have one
    spelling that matters: the holes are empty, of which one is spelled as the allocator's memory is. Of other memory the
-   stream states what it is spelled as (stated_of), whichever was there before. */
-#define STATED_BYTES ((MEMORY_END < ADDRESS_END ? MEMORY_END : ADDRESS_END) / GRANULE)
+   stream keeps nothing (stream/group.h). */
 _Static_assert((uint64_t)1 << ADDRESS_BITS == 2 * ADDRESS_END, "one bit is left out");
-_Static_assert(HOOK_PAGE_START == FEWEST_STATED_START + FEWEST_END / GRANULE, "it follows the maps");
+_Static_assert(HOOK_PAGE_START >= (uint64_t)(ARENA_NUMBER + 1) << ARENA_SHIFT, "it follows the allocator's memory");
 _Static_assert(FAKE_SLOTS_START + ((uint64_t)1 << (24 + FAKE_SLOTS_SHIFT)) <= SHADOW_START + HOLE_END / GRANULE,
                "what has a number lies before the shadow of memory behind the hole");
 
@@ -63,10 +60,7 @@ static inline bool is_in_shadow(uint64_t address)
 
 #else
 
-#define STATED_BYTES SHADOW_BYTES
 _Static_assert(MEMORY_END <= ADDRESS_END, "a trace can spell each address");
-/* After them comes the hook page. */
-_Static_assert((uint64_t)HOOK_PAGE_START == STATED_START + STATED_BYTES, "it follows the maps");
 
 /* An address as traces have it. */
 static inline uint64_t spelled(uint64_t address)
@@ -94,15 +88,6 @@ static inline bool is_beyond(uint64_t address, uint64_t size)
     return address > MEMORY_END - size || is_in_hole(address);
 }
 
-/* In `stated` alone: a thread is bringing the stream up just now, in a segment whose number ends in these four bits. */
-enum { STATED_BUSY = 0xe0, BUSY_NUMBERS = 0x10 };
-
-/* In one of the two maps: a program that has no recorder has nothing there. */
-static inline bool is_in_maps(uint64_t address)
-{
-    return is_in_shadow(address) || address - STATED_START < STATED_BYTES;
-}
-
 static inline bool is_in_arena(uint64_t address)
 {
     return address >> ARENA_SHIFT == ARENA_NUMBER;
@@ -122,11 +107,6 @@ bool shadow_may_be_poisoned(uint64_t address);
 static inline volatile unsigned char *shadow_of(uint64_t address)
 {
     return (volatile unsigned char *)(SHADOW_START + address / GRANULE);
-}
-
-static inline _Atomic unsigned char *stated_of(uint64_t address)
-{
-    return (_Atomic unsigned char *)(STATED_START + spelled(address) / GRANULE);
 }
 
 /* How many of a granule's first bytes are addressable, by its shadow byte. */

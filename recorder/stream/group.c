@@ -14,19 +14,11 @@
 #include "stream/windows.h"
 #include "stream/writing.h"
 
-/* How many segments of this process, and of those that have forked it, have begun. */
-static _Atomic unsigned segments_begun;
-
 static _Thread_local struct {
     uint64_t cursor; /* 0: it is not known */
     unsigned segment, length;
     unsigned char bytes[MOST_GROUP];
 } last_said;
-
-void group_forget(void)
-{
-    atomic_fetch_add(&segments_begun, 1);
-}
 
 /* Adds a record. Answers its bytes, without the code. */
 static unsigned char *add(struct group *group, enum code code)
@@ -80,13 +72,13 @@ void group_make(struct group *group, unsigned code_and_width, uint64_t address, 
 /* Whether the history that ends at this cursor has stated the same. */
 static bool is_said(const struct group *group, unsigned length, uint64_t cursor)
 {
-    return group->is_lean && last_said.cursor == cursor && last_said.segment == atomic_load(&segments_begun)
+    return group->is_lean && last_said.cursor == cursor && last_said.segment == atomic_load(&shared.segments_begun)
            && last_said.length == length && memcmp(last_said.bytes, group->bytes, length) == 0;
 }
 
 static void note_said(const struct group *group, unsigned length, uint64_t cursor)
 {
-    unsigned segment = atomic_load(&segments_begun);
+    unsigned segment = atomic_load(&shared.segments_begun);
     last_said.cursor = 0;
     atomic_signal_fence(memory_order_seq_cst);
     last_said.segment = segment;

@@ -54,7 +54,5 @@ void group_make(struct group *group, unsigned code_and_width, uint64_t address, 
    if nothing was recorded since. Look again: the stream is in its next segment. */
 enum taking group_record(const struct group *group, uint32_t entry, struct moment moment, bool is_of_heap,
                          struct place *place);
-/* A segment begins. With the stream's lock. */
-void group_forget(void);
 
 #endif

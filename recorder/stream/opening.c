@@ -14,7 +14,6 @@
 #include "environment/stale_trace.h"
 #include "environment/hub_word.h"
 #include "stream/faults.h"
-#include "stream/group.h"
 #include "stream/growing.h"
 #include "stream/held.h"
 #include "stream/locked.h"
@@ -168,7 +167,7 @@ void opening_segment(void)
     atomic_store(&shared.is_cut, false);
     atomic_store(&shared.is_closed_off, false);
     atomic_store(&shared.is_side_full, false);
-    group_forget();
+    atomic_fetch_add(&shared.segments_begun, 1);
     sending_begin();
     memcpy(locked.trace.bytes, HEADER, HEADER_LENGTH);
     if (!locked.has_side)

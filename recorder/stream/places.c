@@ -177,7 +177,9 @@ static enum room make_room(uint64_t cursor, const struct shape *shape, bool is_o
     return ROOM_HERE;
 }
 
-unsigned char *stream_open_place(uint64_t *cursor, unsigned length, bool is_of_heap)
+/* The place of a record that has taken it by this cursor. If the stream goes on in its next segment, it is another
+   cursor. */
+static unsigned char *open_place(uint64_t *cursor, unsigned length, bool is_of_heap)
 {
     struct shape shape = shape_of_one(length);
     while (stream_is_unusual(*cursor, length) || !is_in_stream(*cursor)) {
@@ -232,14 +234,14 @@ unsigned char *stream_reserve(unsigned length, bool is_of_heap)
     }
     uint64_t cursor = stream_take(&STREAM->cursor, CURSOR_EVENT + length);
     unsigned char *at = LIKELY(!stream_is_unusual(cursor, length)) ? STREAM->bytes + (uint32_t)cursor
-                                                                   : stream_open_place(&cursor, length, is_of_heap);
+                                                                   : open_place(&cursor, length, is_of_heap);
     STAYS_KNOWN(cursor); /* to own_place.c */
     return at;
 }
 
 void record_access_slowly(uint64_t cursor, unsigned code_and_width, uint64_t address)
 {
-    unsigned char *at = stream_open_place(&cursor, ACCESS_LENGTH, false);
+    unsigned char *at = open_place(&cursor, ACCESS_LENGTH, false);
     if (at != NULL)
         put_access(at, code_and_width, address);
 }

@@ -111,6 +111,7 @@ extern struct shared {
     _Atomic bool has_close;        /* so each has the close after it, in a file */
     _Atomic bool is_late;          /* something bad came after the close */
     _Atomic bool is_closed_off;    /* the process has closed the descriptor: the next record begins a segment */
+    _Atomic unsigned segments_begun; /* of this process, and of those that have forked it */
 } shared;
 
 /* The first byte of a granule in a block's span whose shadow byte is another one than the block leaves there. */
@@ -168,7 +169,7 @@ extern const struct above above OWN_NAME(above); /* start.c */
 extern _Atomic bool halt_is_on OWN_NAME(halt_is_on);
 
 /* Lean recording: good mallocs and frees are left out, and poison in blocks. What a bad access or free has to
-   find is stated when that comes. It changes with the heap locked. */
+   find is stated beside it (stream/group.h). It changes with the heap locked. */
 extern _Atomic bool lean_is_on OWN_NAME(lean_is_on);
 
 static inline bool is_lean(void)

@@ -8,7 +8,8 @@ import hub
 from drawn import expect_same, recorded
 from inline import make
 from segments import kinds_of, record, segments_of
-from support import TESTS, Compiler, Suite, Trace, expect, run, side_of, traces
+from support import RECORDER, TESTS, TOP, Compiler, Suite, Trace, expect, run, side_of, traces
+from testing.programs import call
 from testing.side import EXIT, SEGMENT
 
 ONE = 1 << 24
@@ -192,6 +193,14 @@ def check_poisoned(suite: Suite, folder: str, program: str) -> None:
         expect(shadows_found(suite, folder, program, words), ({}, []), words)
 
 
+def check_said(_suite: Suite, folder: str, compiler: Compiler) -> None:
+    """What is stated before a bad access gives the collector its shadow byte and its class."""
+    flags = ["-std=gnu11", "-O2", "-iquote", RECORDER, "-iquote", TOP]
+    call([compiler.name, *flags, f"{TESTS}/said.c", f"{RECORDER}/stream/saying.c", "-o", f"{folder}/said"], check=True)
+    ran = run([f"{folder}/said"], folder)
+    expect((ran.returncode, ran.stdout[:5]), (0, b"0 of "), ran.stdout.decode())
+
+
 def check_hub(suite: Suite, folder: str, program: str) -> None:
     """A block in the way begins another connection of the process. Each fault is there once."""
     peers, said = hub.run_under(folder, [program, "turns", "500"], ASANCOL_QUARANTINE="200", ASANCOL_LIMIT="100")
@@ -256,3 +265,4 @@ def tests(suite: Suite, compiler: Compiler) -> None:
                                  ("hub", check_hub, lean)):
         suite.test(f"{compiler} lean {name}", check, program)
     suite.test(f"{compiler} lean every access", check_every, compiler)
+    suite.test(f"{compiler} lean said", check_said, compiler)

@@ -27,7 +27,6 @@
 #include "stream/regions.h"
 #include "stream/sending.h"
 #include "stream/side.h"
-#include "stream/stating.h"
 
 enum { THREADS = 4, RECORDS = 40000, LIMIT = 30000 };
 
