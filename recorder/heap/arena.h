@@ -102,7 +102,7 @@ struct unit {
         };
     };
     /* Of a slab of a shard. */
-    uint32_t left;  /* its slots that are not freed, and one more while it is open; atomic */
+    uint32_t left;                       /* its slots that are not freed, and one more while it is open; atomic */
     uint32_t listed_before, listed_next; /* among those that may be used again; 0 is none */
     uint32_t dead;  /* how many of its pages are counted as dead (retiring.c) */
     uint16_t given; /* a bit for each page that was given back */
@@ -203,7 +203,7 @@ static inline void unit_write(uint32_t number, struct unit value)
     SET_NOTE(unit->used, value.used);
 }
 
-/* What was painted before is seen with it. */
+/* Whoever sees it sees the shadow as painted before. */
 static inline void block_write(struct block *block, struct block now)
 {
     __atomic_store_n(&block->all_bits, now.all_bits, __ATOMIC_RELEASE);

@@ -1,5 +1,5 @@
-/* A block leaves in each granule of its span one shadow byte (shade_of_block). Looked at are the granule of the access and the
-   next one, the first and the last granule of the block, and both redzones. */
+/* A block leaves in each granule of its span one shadow byte (shade_of_block). Looked at are the granule of the access
+   and the next one, the first and the last granule of the block, and both redzones. */
 #include "heap/differing.h"
 
 #include "heap/arena.h"
@@ -52,7 +52,8 @@ static bool is_given(uintptr_t granule, unsigned char shade, unsigned char left)
 
 static bool differs_at(const struct painted *block, uintptr_t granule, struct difference *difference)
 {
-    unsigned char left = shade_of_block(block->start, block->size, block->is_held, granule), shade = *shadow_of(granule);
+    unsigned char left = shade_of_block(block->start, block->size, block->is_held, granule),
+                  shade = *shadow_of(granule);
     if (LIKELY(shade == left) || is_given(granule, shade, left))
         return false;
     *difference = (struct difference){.granule = granule, .shade = shade, .left = left};

@@ -1,5 +1,5 @@
-/* A freed block of more bytes than the collector holds is found in pieces, each a block of its own. Of memory whose notes
-   are gone it is known that it was freed: a block as large as can be. */
+/* A freed block of more bytes than the collector holds is found in pieces, each a block of its own. Where the notes are
+   gone, all of it was freed: one block, as large as can be. */
 #include "heap/finding.h"
 
 #include "heap/blocks.h"

@@ -186,7 +186,8 @@ static void map_at_once(void)
     struct parts parts;
     parts_of(&parts);
     for (const struct code_range *it = parts.each; it->size != 0; it++)
-        system_mmap((void *)(SHADOW_START + it->start / GRANULE), it->size / GRANULE, PROT_READ | PROT_WRITE, MAP_FLAGS, -1, 0);
+        system_mmap((void *)(SHADOW_START + it->start / GRANULE), it->size / GRANULE, PROT_READ | PROT_WRITE, MAP_FLAGS,
+                    -1, 0);
 }
 
 #endif

@@ -65,8 +65,8 @@ void group_make(struct group *group, unsigned code_and_width, uint64_t address, 
     add_itself(group, code_and_width, address);
     if (!group->is_lean && count != 0)
         add_said(group, &(struct statement){.code = CODE_UNPOISON,
-                                       .address = found->granule,
-                                       .size = said[count - 1].address + said[count - 1].size - found->granule});
+                                            .address = found->granule,
+                                            .size = said[count - 1].address + said[count - 1].size - found->granule});
 }
 
 /* Whether the history that ends at this cursor has stated the same. */
@@ -128,7 +128,7 @@ static bool is_unusual(uint64_t cursor, const struct shape *shape)
     return stream_is_unusual(cursor + (shape->count - 1) * CURSOR_EVENT, shape->length);
 }
 
-/* What is left of a group whose statements stand there, or all of it. */
+/* The rest of a group whose statements stand there already, or all of it. */
 struct rest {
     const unsigned char *bytes;
     struct shape shape;
@@ -181,7 +181,8 @@ static enum taking put(const struct group *group, uint32_t entry, struct moment 
     side_note_stated(rest.shape.count - is_put);
     if (!is_put)
         return TAKING_AGAIN;
-    note_said(group, group->shape.length - group->shape.lengths[group->shape.count - 1U], cursor + step_of(&rest.shape));
+    note_said(group, group->shape.length - group->shape.lengths[group->shape.count - 1U],
+              cursor + step_of(&rest.shape));
     place->at = at;
     return TAKING_DONE;
 }

@@ -1,6 +1,6 @@
-/* A bad access or free with what states it: records that have one place, so nothing comes between them. In lean
+/* A bad access or free with its statements: records that have one place, so nothing comes between them. In lean
    recording each begins a history, in which nothing else stands. In a full one there is the history of the blocks, and
-   what is stated beside that is taken back after the access.
+   further statements are taken back after the access.
 
    Called: by watched.c, in the thread of the access or free, also in a handler, with or without the allocator's lock.
    No lock: a place is taken by one compare-and-swap of the cursor. */
@@ -48,10 +48,10 @@ struct place {
     uint64_t event;
 };
 
-/* Of an access, or of a free, which has no width; null: nothing is found, and nothing stated. */
+/* Of an access, or of a free, which has no width; null: nothing is stated. */
 void group_make(struct group *group, unsigned code_and_width, uint64_t address, const struct found *found);
-/* Records it, with this in the index, or nothing (0). What the last group of this thread has stated is not stated again
-   if nothing was recorded since. Look again: the stream is in its next segment. */
+/* Records it, with this in the index, or nothing (0). The statements of this thread's last group are not repeated if
+   nothing was recorded since. TAKING_AGAIN: the stream is in its next segment. */
 enum taking group_record(const struct group *group, uint32_t entry, struct moment moment, bool is_of_heap,
                          struct place *place);
 

@@ -43,8 +43,11 @@ static bool looks_sound(uint64_t offset, uint64_t end, int most_holes)
 static const struct {
     enum code code;
     unsigned length;
-} fillers[] = {{CODE_LOAD, ACCESS_LENGTH}, {CODE_UNPOISON, REGION_LENGTH}, {CODE_POISON, POISON_LENGTH},
-               {CODE_FREE, FREE_LENGTH}, {CODE_ANEW, ANEW_LENGTH}};
+} fillers[] = {{CODE_LOAD, ACCESS_LENGTH},
+               {CODE_UNPOISON, REGION_LENGTH},
+               {CODE_POISON, POISON_LENGTH},
+               {CODE_FREE, FREE_LENGTH},
+               {CODE_ANEW, ANEW_LENGTH}};
 
 static enum code filler(unsigned length)
 {
@@ -94,7 +97,10 @@ static const struct shape shapes[] = {
     {{POISON_LENGTH, ACCESS_LENGTH, REGION_LENGTH}, 3, POISON_LENGTH + ACCESS_LENGTH + REGION_LENGTH},
 };
 static const struct shape lean_shapes[] = {
-#define GROUP(count, length, ...) {{ANEW_LENGTH, __VA_ARGS__}, 1 + (count), ANEW_LENGTH + (length)}
+#define GROUP(count, length, ...)                                                                                      \
+    {                                                                                                                  \
+        {ANEW_LENGTH, __VA_ARGS__}, 1 + (count), ANEW_LENGTH + (length)                                                \
+    }
     {{ACCESS_LENGTH}, 1, ACCESS_LENGTH},
     {{FREE_LENGTH}, 1, FREE_LENGTH},
     GROUP(2, 27, REGION_LENGTH, ACCESS_LENGTH),
@@ -109,7 +115,7 @@ static const struct shape lean_shapes[] = {
 #undef GROUP
 };
 
-/* Whether what stands in the place of a group is of this shape, or not there yet. */
+/* Whether each record in the place of a group has its length in this shape, or is not there yet. */
 static bool fits(const struct shape *shape, uint64_t offset)
 {
     for (unsigned i = 1; i < shape->count; i++) {

@@ -1,6 +1,6 @@
-/* What states the memory that a bad access or free has met, in a history that begins there (group.h): a function of
-   what was found alone. The collector then has the shadow byte of the access's granule, and in the next one the kind of
-   byte that says the class.
+/* The statements before a bad access or free, in a history that begins there (group.h): a function of its circumstances
+   alone. By them the collector has as many addressable bytes in the access's granule as the shadow, and the byte that
+   says the class, there or in the next granule.
 
    Called: by group.c, in the thread that has made the access or free, also in a handler. They only compute: nothing is
    read but what they are given, nothing is kept, and no lock is needed. */
@@ -12,7 +12,7 @@
 
 #include "common/format.h"
 
-/* What was found, once. */
+/* The circumstances, read once. */
 struct found {
     uint64_t granule;          /* that of the access's first byte */
     unsigned char shade, next; /* its shadow byte, and that of the granule after it, or 0 where no memory can be */

@@ -134,8 +134,8 @@ struct above {
     void (*hold)(uint64_t bytes);
     /* The process poisons a part of a block. */
     void (*poisons_in_heap)(void);
-    /* Of the allocator's memory: what a bad access has found (stream/saying.h), with the block; and what a bad free has,
-       or false, if a block is in use there (heap/finding.h). At any time. */
+    /* Completes the circumstances of a bad access to the allocator's memory (stream/saying.h), or of a bad free, or is
+       false if a block is in use there (heap/finding.h). At any time. */
     void (*find_state)(struct found *found);
     bool (*find_freed)(uint64_t address, struct found *found);
     /* Where the shadow of the block at an address differs from its notes (heap/differing.h). At any time. */

@@ -1,5 +1,5 @@
-/* What is bad is looked at once: the shadow, and the nearest block. Then comes its entry beside the stream, and then its
-   records. If the segment is another one by then, the entry is in the wrong list, and all begins anew. */
+/* The shadow and the nearest block are read once. Then comes the entry beside the stream, and then the records. If the
+   segment is another one by then, the entry is in the wrong list, and all begins anew. */
 #define _GNU_SOURCE
 #include "stream/watched.h"
 
@@ -58,7 +58,7 @@ static bool is_stated_already(const struct found *found, uint64_t address, unsig
     return found->is_of_heap && !is_lean() && !is_frame_in_block(address, width);
 }
 
-/* Records what was found, or that nothing bad was (null). */
+/* With its statements, or without any (null). */
 static bool record_found(uint32_t entry, struct moment moment, unsigned code_and_width, uint64_t address,
                          const struct found *found, bool is_of_heap, struct place *place)
 {

@@ -194,7 +194,7 @@ def check_poisoned(suite: Suite, folder: str, program: str) -> None:
 
 
 def check_said(_suite: Suite, folder: str, compiler: Compiler) -> None:
-    """What is stated before a bad access gives the collector its shadow byte and its class."""
+    """The statements before a bad access give the collector its shadow byte and its class."""
     flags = ["-std=gnu11", "-O2", "-iquote", RECORDER, "-iquote", TOP]
     call([compiler.name, *flags, f"{TESTS}/said.c", f"{RECORDER}/stream/saying.c", "-o", f"{folder}/said"], check=True)
     ran = run([f"{folder}/said"], folder)

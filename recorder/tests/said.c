@@ -1,4 +1,4 @@
-/* What is stated before a bad access (stream/saying.c), beside a collector of some lines: in a history that begins
+/* The statements before a bad access (stream/saying.c), and a collector of some lines: in a history that begins
    there, it has as many addressable bytes in the granule of the access as the shadow, and says the same class. Each
    shadow byte of the granule and of the next one, with no block, and with each live or freed one of some sizes near it:
    so notes may say anything. A block that has left the byte that says the class is the one that is stated.
@@ -125,8 +125,8 @@ static void compare(const struct found *found)
     compared++;
     if (what != NULL && wrong++ < 10)
         printf("%s of %02x, %02x%s, with a %s block of %u bytes at %+d\n", what, found->shade, found->next,
-               found->is_of_heap ? " of the heap" : "", found->has_block ? found->is_held ? "freed" : "live" : "missing",
-               found->size, (int)found->start - HERE);
+               found->is_of_heap ? " of the heap" : "",
+               found->has_block ? found->is_held ? "freed" : "live" : "missing", found->size, (int)found->start - HERE);
 }
 
 static void compare_blocks(struct found found)

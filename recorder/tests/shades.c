@@ -1,7 +1,7 @@
 /* What the recorder's shadow says and becomes, beside crates/asan_shades, which proves that it is what the collector
    makes of the events: accesses by each shadow byte that a granule may have, all small regions and blocks on small
-   memory, and drawn ones. A region is clean if no access to one of its bytes is bad. And what is stated before a bad
-   access outside blocks makes the collector's bytes those of the shadow.
+   memory, and drawn ones. A region is clean if no access to one of its bytes is bad. And the statements before a
+   bad access outside blocks make the collector's bytes those of the shadow.
    Prints how many answers were compared, and the first that differ; the status is 1 if one does. */
 #define _GNU_SOURCE
 #include <stdbool.h>

@@ -77,43 +77,47 @@ struct scenario {
     bool jumps;        /* and leaves by a jump */
     unsigned preemptions, runs; /* as much as a usual test has time for */
     unsigned held;              /* blocks in the quarantine */
-    bool is_lean;               /* each bad access begins a history, and good ones are left out */
     enum step steps[MAX_THREADS][MAX_STEPS];
 };
 
 static const struct scenario scenarios[] = {
-    {"bad accesses", 4, false, 0, false, 2, 20000, 0, false, {{BAD, BAD, BAD}, {BAD, BAD, BAD}}},
-    {"bad accesses of three", 4, false, 0, false, 2, 20000, 0, false, {{BAD, BAD}, {BAD, BAD}, {BAD, BAD}}},
-    {"good and bad accesses", 3, false, 0, false, 2, 20000, 0, false, {{GOOD, BAD, GOOD, BAD}, {GOOD, GOOD, BAD}}},
-    {"poison in a block", 8, false, 0, false, 2, 20000, 0, false,
+    {"bad accesses", 4, false, 0, false, 2, 20000, 0, {{BAD, BAD, BAD}, {BAD, BAD, BAD}}},
+    {"bad accesses of three", 4, false, 0, false, 2, 20000, 0, {{BAD, BAD}, {BAD, BAD}, {BAD, BAD}}},
+    {"good and bad accesses", 3, false, 0, false, 2, 20000, 0, {{GOOD, BAD, GOOD, BAD}, {GOOD, GOOD, BAD}}},
+    {"poison in a block", 8, false, 0, false, 2, 20000, 0,
      {{POISON, STORE, UNPOISON, POISON, STORE}, {POISON, STORE, UNPOISON}}},
-    {"bad frees", 3, false, 0, false, 2, 20000, 0, false, {{FREE, FREE, FREE}, {FREE, BAD}}},
-    {"time", 4, true, 0, false, 2, 20000, 0, false, {{BAD, BAD, BAD}, {BAD, BAD}}},
-    {"handlers", 4, false, 2, false, 2, 20000, 0, false, {{BAD, BAD, BAD}, {BAD}}},
-    {"handlers that jump", 4, true, 2, true, 2, 20000, 0, false, {{BAD, BAD, BAD}, {BAD, BAD}}},
-    {"an exec that fails", 4, false, 0, false, 2, 20000, 0, false, {{BAD, EXEC, BAD}, {BAD, BAD, BAD}}},
-    {"an exit", 4, false, 0, false, 2, 20000, 0, false, {{BAD, CLOSE, BAD}, {BAD, BAD, BAD}}},
-    {"an end", 4, false, 0, false, 3, 20000, 0, false, {{BAD, END}, {BAD, BAD, BAD}}},
-    {"an end by a signal", 4, true, 0, false, 2, 20000, 0, false, {{BAD, KILLED}, {BAD, BAD, BAD}}},
-    {"two events a segment", 2, false, 0, false, 2, 20000, 0, false, {{GOOD, GOOD, GOOD, GOOD, GOOD, GOOD}, {GOOD, GOOD}}},
-    {"poison during a snapshot", 32, false, 0, false, 2, 20000, MAX_HELD, false,
+    {"bad frees", 3, false, 0, false, 2, 20000, 0, {{FREE, FREE, FREE}, {FREE, BAD}}},
+    {"time", 4, true, 0, false, 2, 20000, 0, {{BAD, BAD, BAD}, {BAD, BAD}}},
+    {"handlers", 4, false, 2, false, 2, 20000, 0, {{BAD, BAD, BAD}, {BAD}}},
+    {"handlers that jump", 4, true, 2, true, 2, 20000, 0, {{BAD, BAD, BAD}, {BAD, BAD}}},
+    {"an exec that fails", 4, false, 0, false, 2, 20000, 0, {{BAD, EXEC, BAD}, {BAD, BAD, BAD}}},
+    {"an exit", 4, false, 0, false, 2, 20000, 0, {{BAD, CLOSE, BAD}, {BAD, BAD, BAD}}},
+    {"an end", 4, false, 0, false, 3, 20000, 0, {{BAD, END}, {BAD, BAD, BAD}}},
+    {"an end by a signal", 4, true, 0, false, 2, 20000, 0, {{BAD, KILLED}, {BAD, BAD, BAD}}},
+    {"two events a segment", 2, false, 0, false, 2, 20000, 0, {{GOOD, GOOD, GOOD, GOOD, GOOD, GOOD}, {GOOD, GOOD}}},
+    {"poison during a snapshot", 32, false, 0, false, 2, 20000, MAX_HELD,
      {{POISON, UNPOISON, POISON},
       {BAD, BAD, BAD, BAD, BAD, BAD, BAD, BAD, BAD, BAD, BAD, BAD, BAD, BAD, BAD, POISON}}},
-    {"at the limit", 1000, false, 0, false, 2, 20000, 0, false, {{BAD, BAD}, {BAD, BAD}}},
-    {"a fork", 32, false, 0, false, 2, 3000, 0, false, {{BAD, FORK, GOOD, BAD}, {POISON, STORE, BAD, UNPOISON, BAD}}},
-    {"a fork at a switch", 4, false, 0, false, 2, 3000, 0, false, {{BAD, BAD, FORK, BAD}, {BAD, GOOD, BAD, BAD}}},
-    {"a fork that no handler sees", 4, false, 0, false, 2, 3000, 0, false, {{BAD, RAW_FORK, BAD}, {BAD, BAD, BAD, BAD}}},
-    {"a fork in the middle of an exec", 4, false, 0, false, 2, 3000, 0, false, {{RAW_FORK, BAD}, {EXEC, BAD, EXEC}}},
-    {"lean accesses", 4, false, 0, false, 2, 20000, 0, true, {{BAD, BAD, BAD}, {BAD, BAD, BAD}}},
-    {"lean accesses of three", 7, false, 0, false, 2, 20000, 0, true, {{BAD, BAD}, {BAD, BAD}, {BAD, BAD}}},
-    {"lean accesses and frees", 6, false, 0, false, 2, 20000, 0, true, {{BAD, FREE, FREE, BAD}, {FREE, BAD}}},
-    {"lean handlers that jump", 8, true, 2, true, 2, 20000, 0, true, {{BAD, BAD, BAD}, {BAD, BAD}}},
-    {"lean, at an exit", 5, false, 0, false, 2, 20000, 0, true, {{BAD, CLOSE, BAD}, {BAD, BAD, BAD}}},
-    {"lean, of a thread that sleeps", 8, true, 0, false, 2, 20000, 0, true, {{BAD, BAD, FREE}, {BAD, BAD}}},
-    {"lean, at a fork", 5, false, 0, false, 2, 3000, 0, true, {{BAD, BAD, FORK, BAD}, {BAD, BAD, BAD}}},
+    {"at the limit", 1000, false, 0, false, 2, 20000, 0, {{BAD, BAD}, {BAD, BAD}}},
+    {"a fork", 32, false, 0, false, 2, 3000, 0, {{BAD, FORK, GOOD, BAD}, {POISON, STORE, BAD, UNPOISON, BAD}}},
+    {"a fork at a switch", 4, false, 0, false, 2, 3000, 0, {{BAD, BAD, FORK, BAD}, {BAD, GOOD, BAD, BAD}}},
+    {"a fork that no handler sees", 4, false, 0, false, 2, 3000, 0, {{BAD, RAW_FORK, BAD}, {BAD, BAD, BAD, BAD}}},
+    {"a fork in the middle of an exec", 4, false, 0, false, 2, 3000, 0, {{RAW_FORK, BAD}, {EXEC, BAD, EXEC}}},
+};
+
+/* The same in lean recording: each bad access begins a history, and good ones are left out. */
+static const struct scenario lean_scenarios[] = {
+    {"lean accesses", 4, false, 0, false, 2, 20000, 0, {{BAD, BAD, BAD}, {BAD, BAD, BAD}}},
+    {"lean accesses of three", 7, false, 0, false, 2, 20000, 0, {{BAD, BAD}, {BAD, BAD}, {BAD, BAD}}},
+    {"lean accesses and frees", 6, false, 0, false, 2, 20000, 0, {{BAD, FREE, FREE, BAD}, {FREE, BAD}}},
+    {"lean handlers that jump", 8, true, 2, true, 2, 20000, 0, {{BAD, BAD, BAD}, {BAD, BAD}}},
+    {"lean, at an exit", 5, false, 0, false, 2, 20000, 0, {{BAD, CLOSE, BAD}, {BAD, BAD, BAD}}},
+    {"lean, of a thread that sleeps", 8, true, 0, false, 2, 20000, 0, {{BAD, BAD, FREE}, {BAD, BAD}}},
+    {"lean, at a fork", 5, false, 0, false, 2, 3000, 0, {{BAD, BAD, FORK, BAD}, {BAD, BAD, BAD}}},
 };
 
 static const struct scenario *scenario;
+static bool scenario_is_lean;
 
 /* What there is at the end. The explorer puts all of this back before each run. */
 
@@ -267,7 +271,10 @@ static void say_child(void)
     world.said_child++;
 }
 static void do_nothing(void) {}
-static void find_state(struct found *found) { found->has_block = false; }
+static void find_state(struct found *found)
+{
+    found->has_block = false;
+}
 static bool find_freed(uint64_t address, struct found *found)
 {
     found->has_block = false;
@@ -519,7 +526,7 @@ static struct settings settings;
 static bool begin_stream(void)
 {
     bool has_begun = stream_begin(&settings);
-    atomic_store(&lean_is_on, scenario->is_lean);
+    atomic_store(&lean_is_on, scenario_is_lean);
     return has_begun;
 }
 
@@ -553,7 +560,7 @@ static void be_child(unsigned thread, enum child child)
     if (child == CHILD)
         begin_child(before);
     for (unsigned number = 0; number < CHILD_EVENTS; number++)
-        record(thread, number % 2 == 0 || scenario->is_lean ? BAD : GOOD, number);
+        record(thread, number % 2 == 0 || scenario_is_lean ? BAD : GOOD, number);
 }
 
 /* The bytes of the files that are open. */
@@ -781,14 +788,16 @@ static void look_at_segment(unsigned segment)
 
 static void list_segment(unsigned segment)
 {
-    static const char *const names[] = {"none", "load", "store", "malloc", "free", "poison", "unpoison", "close", "anew"};
+    static const char *const names[] = {"none",   "load",     "store", "malloc", "free",
+                                        "poison", "unpoison", "close", "anew"};
     const struct file *file = &world.files[segment];
     size_t end = file->length <= FILE_ROOM ? end_of(file) : 0;
     printf("  segment %u%s:", segment, is_closed(file) ? "" : " without a close");
     for (size_t at = HEADER_LENGTH; at < end; at += record_length(file->bytes[at])) {
         unsigned offset = record_length(file->bytes[at]) == ACCESS_LENGTH || file->bytes[at] == CODE_POISON ? 2 : 1;
         bool is_anew = file->bytes[at] == CODE_ANEW;
-        printf(" %s %llx", names[file->bytes[at]], is_anew ? 0ULL : (unsigned long long)number_at(file->bytes + at + offset));
+        printf(" %s %llx", names[file->bytes[at]],
+               is_anew ? 0ULL : (unsigned long long)number_at(file->bytes + at + offset));
     }
     printf("\n");
 }
@@ -883,9 +892,28 @@ static uint64_t option(const char *name, int count, char **argv)
     return 0;
 }
 
-int main(int count, char **argv)
+/* Each in a process of its own. */
+static int explore_all(const struct scenario *all, size_t number, struct search search, int count, char **argv)
 {
     int status = 0;
+    for (size_t i = 0; i < number; i++) {
+        scenario = &all[i];
+        if (!is_asked_for(scenario->name, count, argv))
+            continue;
+        printf("%s: ", scenario->name);
+        fflush(stdout);
+        int ended = 0;
+        pid_t child = fork();
+        if (child == 0)
+            exit(explore_scenario(search, option("--runs", count, argv)) ? 0 : 1);
+        if (child < 0 || waitpid(child, &ended, 0) != child || ended != 0)
+            status = 1;
+    }
+    return status;
+}
+
+int main(int count, char **argv)
+{
     struct search search = {.preemptions = (unsigned)option("--preemptions", count, argv),
                             .rareness = (unsigned)option("--rareness", count, argv),
                             .seed = option("--seed", count, argv)};
@@ -897,18 +925,7 @@ int main(int count, char **argv)
     memory_of_windows = mmap(NULL, (size_t)WINDOWS << WINDOW_SHIFT, PROT_READ | PROT_WRITE,
                              MAP_SHARED | MAP_ANONYMOUS | MAP_NORESERVE, -1, 0);
     explore_begin();
-    for (size_t i = 0; i < sizeof scenarios / sizeof *scenarios; i++) {
-        scenario = &scenarios[i];
-        if (!is_asked_for(scenario->name, count, argv))
-            continue;
-        printf("%s: ", scenario->name);
-        fflush(stdout);
-        int ended = 0;
-        pid_t child = fork();
-        if (child == 0)
-            return explore_scenario(search, option("--runs", count, argv)) ? 0 : 1;
-        if (child < 0 || waitpid(child, &ended, 0) != child || ended != 0)
-            status = 1;
-    }
-    return status;
+    int status = explore_all(scenarios, sizeof scenarios / sizeof *scenarios, search, count, argv);
+    scenario_is_lean = true;
+    return explore_all(lean_scenarios, sizeof lean_scenarios / sizeof *lean_scenarios, search, count, argv) | status;
 }

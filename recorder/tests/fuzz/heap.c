@@ -57,7 +57,10 @@ static bool is_own_frame(uintptr_t frame) { return frame == 0; }
 const struct above above = {.halt_at = halt_at, .is_own_frame = is_own_frame};
 enum state stream_state(void) { return STATE_RECORDING; }
 union stream_page stream_page;
-bool stream_wake(void) { return true; }
+bool stream_wake(void)
+{
+    return true;
+}
 void stream_stop(const char *why) { fprintf(stderr, "%s\n", why), exit(1); }
 /* Of the thread that takes snapshots. */
 static _Thread_local uint64_t events;
