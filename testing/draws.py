@@ -1,4 +1,4 @@
-"""Draws traces at random, good and damaged, in both versions of the format."""
+"""Draws traces at random, good and damaged, in each version of the format."""
 
 from random import Random
 from typing import List
@@ -25,7 +25,7 @@ class Draw:
 
     def __init__(self, random: Random) -> None:
         self.random = random
-        self.version = 1 + (random.random() < 0.6)
+        self.version = random.choice([1, 1, 2, 2, 2, 3, 3, 3])
         self.places = random.sample(PLACES, 1 + (random.random() < 0.2))
         self.used: List[int] = []  # where mallocs were
         self.odd = random.choice([0, 0, 0, 0.01, 0.05])  # how often a number is at an end of its range
@@ -76,9 +76,11 @@ class Draw:
         kind = random.randrange(3 if random.random() >= self.odd / 2 else 6)
         if code == UNPOISON:
             return traces.unpoison(wrapped(at), wrapped(size))
-        return traces.poison(wrapped(at), wrapped(size), kind if self.version == 2 else None)
+        return traces.poison(wrapped(at), wrapped(size), kind if self.version > 1 else None)
 
     def record(self) -> bytes:
+        if self.version == 3 and self.random.random() < 0.06:
+            return traces.anew()
         which = self.random.random()
         if which < 0.22:
             return self.malloc()
@@ -115,7 +117,7 @@ def damaged(random: Random, trace: bytes) -> bytes:
         elif what == 4 and text:
             text[at % len(text)] = random.choice([0, 1, 2, 3, 4, 5, 6, 7, 8, 9, 0x80, 0xFF])
         elif what == 5:
-            text[:8] = random.choice([*HEADERS.values(), b"ASTR\x03\0\0\0", b"ASTR\x01\0\0\x01", b"ASTS\x01\0\0\0"])
+            text[:8] = random.choice([*HEADERS.values(), b"ASTR\x04\0\0\0", b"ASTR\x01\0\0\x01", b"ASTS\x01\0\0\0"])
         else:
             text += text[at:]
     return bytes(text)

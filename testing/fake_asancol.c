@@ -64,11 +64,20 @@ enum { BRANCH_SIZE = sizeof(void *) << BRANCH_BITS };
 static unsigned char shared[256][LEAF_SIZE];
 static unsigned char **root[(1 << ROOT_BITS) + 1]; /* and one for the granule after the last */
 
+/* The branches that are there. */
+static struct {
+    size_t count;
+    uint64_t places[sizeof root / sizeof *root];
+} branches;
+
 static unsigned char **leaf_place(uint64_t granule)
 {
-    unsigned char ***branch = &root[granule >> (LEAF_BITS + BRANCH_BITS)];
-    if (*branch == NULL)
+    uint64_t place = granule >> (LEAF_BITS + BRANCH_BITS);
+    unsigned char ***branch = &root[place];
+    if (*branch == NULL) {
         *branch = make(BRANCH_SIZE);
+        branches.places[branches.count++] = place;
+    }
     return &(*branch)[(granule >> LEAF_BITS) % (1 << BRANCH_BITS)];
 }
 
@@ -114,11 +123,12 @@ static void paint(uint64_t first, uint64_t end, unsigned char byte)
 
 static void clear_shadow(void)
 {
-    for (size_t i = 0; i <= 1 << ROOT_BITS; i++) {
-        for (size_t j = 0; root[i] != NULL && j < 1 << BRANCH_BITS; j++)
-            let_go(root[i][j]);
-        unmake(root[i], BRANCH_SIZE);
-        root[i] = NULL;
+    while (branches.count > 0) {
+        unsigned char ***branch = &root[branches.places[--branches.count]];
+        for (size_t i = 0; i < 1 << BRANCH_BITS; i++)
+            let_go((*branch)[i]);
+        unmake(*branch, BRANCH_SIZE);
+        *branch = NULL;
     }
 }
 

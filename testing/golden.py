@@ -124,7 +124,7 @@ def rows(top: str = TOP) -> List[Row]:
 LEMMAS = "crates/asan_check/proofs/Examples.antt"
 LEMMA = re.compile(r"^(\w+) :\s+verdicts (\w+) (.*?)\s+≡ (.*?)\n\1 = refl$", re.M | re.S)
 EVENTS = re.compile(r"^abbrev (\w+) : List Event\n\1 =\s(.*?)\n\n", re.M | re.S)
-EVENT = re.compile(r"\((\w+)(?: kind\.(\w+))? 0x(\w+)(?: (\d+))? refl\)")
+EVENT = re.compile(r"\((\w+)(?: kind\.(\w+))? 0x(\w+)(?: (\d+))? refl\)|\b(?:event\.A|a)new\b")
 REPORTED = re.compile(r"\(report (\d+) \(fault\.(\w+) ([^()]*)\)\)")
 BOUNDS = {"usual": None, "largest_quarantine": 1 << 40}
 LETTERS = {"malloc": "m", "free": "f", "poison": "P", "poison_of": "P", "unpoison": "U", "load": "l", "store": "s"}
@@ -132,7 +132,9 @@ KINDS = {"": "", "User": "", "Stack": "1", "Global": "2"}
 
 
 def word_of(name: str, kind: str, at: str, size: str) -> str:
-    """Returns an event of a lemma in letters."""
+    """Returns an event of a lemma in letters. Without a name it is anew."""
+    if not name:
+        return "A"
     if name in ("load", "store"):
         return f"{LETTERS[name]}{size} {at}"
     return f"{LETTERS[name]}{KINDS[kind]} {at} {size}".rstrip()

@@ -33,7 +33,7 @@ def environment(*unset: str, **settings: str) -> Dict[str, str]:
     settings. Without another setting a program has no run of its own."""
     without = ("ASANCOL", "ASAN_OPTIONS", "LSAN_OPTIONS", "NO_COLOR", *unset)
     kept = {name: value for name, value in os.environ.items() if not name.startswith(without)}
-    # A copy of the recorder needs no plugins for loops, which take long to build.
+    # A copy of the recorder needs no plugins for Clang, which take long to build.
     return {**kept, "LC_ALL": "C", "LLVM_CONFIGS": "", "ASANCOL_RUN": "0", **settings}
 
 

@@ -1,4 +1,4 @@
-"""Traces, for the tests: their records as docs/FORMAT.md lays them out, built and read, in both versions; and events
+"""Traces, for the tests: their records as docs/FORMAT.md lays them out, built and read, in each version; and events
 in the letters of docs/inside/MODEL.md, as they stand in the rows of examples/golden.
 
 It knows where a number lies in a record, and no more: any number that has room can be built and is read, whether a
@@ -10,22 +10,20 @@ import struct
 from typing import List, NamedTuple, Optional
 
 LOAD, STORE, MALLOC, FREE, POISON, UNPOISON = range(1, 7)
-CLOSE = b"\x07"
 ANEW = 8
+CLOSE = b"\x07"
 
 HEADER, HEADER_2, HEADER_3 = (struct.pack("<4sI", b"ASTR", version) for version in (1, 2, 3))
-HEADERS = {1: HEADER, 2: HEADER_2}
+HEADERS = {1: HEADER, 2: HEADER_2, 3: HEADER_3}
 
 # The largest region that is no flaw in version 1.
 MAX_OF_VERSION_1 = 1 << 28
 
 # A record: its code, and its numbers.
-ACCESS, REGION, PLACE, SHADE, ALONE = (struct.Struct(f"<B{numbers}") for numbers in ("BQ", "QQ", "Q", "BQQ", ""))
-LAYOUTS = {
-    version: {LOAD: ACCESS, STORE: ACCESS, MALLOC: REGION, FREE: PLACE, POISON: poison, UNPOISON: REGION}
-    for version, poison in ((1, REGION), (2, SHADE), (3, SHADE))
-}
-LAYOUTS[3][ANEW] = ALONE
+ACCESS, REGION, PLACE, SHADE, BARE = (struct.Struct(f"<B{numbers}") for numbers in ("BQ", "QQ", "Q", "BQQ", ""))
+OF_VERSION_1 = {LOAD: ACCESS, STORE: ACCESS, MALLOC: REGION, FREE: PLACE, POISON: REGION, UNPOISON: REGION}
+OF_VERSION_2 = {**OF_VERSION_1, POISON: SHADE}
+LAYOUTS = {1: OF_VERSION_1, 2: OF_VERSION_2, 3: {**OF_VERSION_2, ANEW: BARE}}
 
 
 # ---- records and traces that are built
@@ -48,12 +46,16 @@ def free(at: int) -> bytes:
 
 
 def poison(at: int, size: int, kind: Optional[int] = None) -> bytes:
-    """A poison of version 1, or one of version 2, which has a kind."""
+    """A poison of version 1, or one of a later version, which has a kind."""
     return REGION.pack(POISON, at, size) if kind is None else SHADE.pack(POISON, kind, at, size)
 
 
 def unpoison(at: int, size: int) -> bytes:
     return REGION.pack(UNPOISON, at, size)
+
+
+def anew() -> bytes:
+    return BARE.pack(ANEW)
 
 
 def closed(*records: bytes, header: bytes = HEADER) -> bytes:
@@ -75,14 +77,18 @@ class Event(NamedTuple):
         if self.code == FREE:
             return free(self.at)
         if self.code == POISON:
-            assert version == 2 or self.kind == 0, "version 1 has no kinds"
-            return poison(self.at, self.size, self.kind if version == 2 else None)
+            assert version > 1 or self.kind == 0, "version 1 has no kinds"
+            return poison(self.at, self.size, self.kind if version > 1 else None)
+        if self.code == ANEW:
+            return anew()
         return REGION.pack(self.code, self.at, self.size)
 
     def is_of(self, version: int) -> bool:
-        """Returns whether a version can spell it: version 1 has no kinds, and no larger regions."""
+        """Returns whether a version can spell it: version 1 has no kinds and no larger regions, only version 3 anew."""
         is_region = self.code in (MALLOC, POISON, UNPOISON)
-        return version == 2 or (self.kind == 0 and not (is_region and self.size > MAX_OF_VERSION_1))
+        if self.code == ANEW:
+            return version == 3
+        return version > 1 or (self.kind == 0 and not (is_region and self.size > MAX_OF_VERSION_1))
 
 
 def trace_of(events: List[Event], version: int) -> bytes:
@@ -104,8 +110,7 @@ class Reading(NamedTuple):
 
 
 def version_of(trace: bytes) -> int:
-    headers = {**HEADERS, 3: HEADER_3}
-    return next((version for version, header in headers.items() if trace[:8] == header), 0)
+    return next((version for version, header in HEADERS.items() if trace[:8] == header), 0)
 
 
 def layout_at(trace: bytes, at: int, version: int) -> Optional[struct.Struct]:
@@ -140,7 +145,7 @@ def read(trace: bytes) -> Reading:
 # ---- events in letters
 
 
-WORD = re.compile(r"([ls])(\d+) ([0-9a-f]+)|(m|P\d*|U) ([0-9a-f]+) (\d+)|f ([0-9a-f]+)")
+WORD = re.compile(r"([ls])(\d+) ([0-9a-f]+)|(m|P\d*|U) ([0-9a-f]+) (\d+)|f ([0-9a-f]+)|A")
 LETTERS = {"l": LOAD, "s": STORE, "m": MALLOC, "P": POISON, "U": UNPOISON}
 
 
@@ -154,7 +159,7 @@ def event_of(word: str) -> Event:
         return Event(LETTERS[access], int(place, 16), int(width))
     if region:
         return Event(LETTERS[region[0]], int(at, 16), int(size), int(region[1:] or 0))
-    return Event(FREE, int(freed, 16))
+    return Event(FREE, int(freed, 16)) if freed else Event(ANEW)
 
 
 def events_of(text: str) -> List[Event]:

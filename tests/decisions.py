@@ -7,7 +7,7 @@ The recorder and asancol-run are built without the toolchain. What they decide i
 that no user's program has: their static libraries are built here, and a program in C calls both on
 all inputs, or on all small ones and on drawn ones. It ends with status 0 if none differs. What it
 prints has to be the table of its name, if there is one: `make test`, which proves nothing, compares
-the C alone with that.
+the C alone with that. Wrong decisions are planted in the C, too: with each, some have to differ.
 
 The last line is 'N passed, M failed', and the status is 0 only if nothing failed.
 """
@@ -36,11 +36,34 @@ class Decisions(NamedTuple):
     sources: List[str]
     folder: str
     has_table: bool = False
+    planted: Tuple[Tuple[str, str], ...] = ()  # in the last of the sources: a text, and a wrong one
 
+
+# In recorder/stream/saying.c.
+WRONG_GROUPS = (
+    ("< span_bytes(block->size)", "<= span_bytes(block->size)"),
+    ("block->size, block->is_held, granule)", "block->size, false, granule)"),
+    ("granule, shade) == shade", "granule, shade) != shade"),
+    (".size = GRANULE, .is_held = true", ".size = 2 * GRANULE, .is_held = true"),
+    (".start = granule + REDZONE", ".start = granule"),
+    ("block->is_held ? 2 : 1", "1"),
+    ("granule + has, GRANULE - has", "granule + had, GRANULE - had"),
+    (".size = has}", ".size = had}"),
+    ("return had != has;", "return had > has;"),
+    ("is_of_frame(shade) ? KIND_STACK : KIND_USER", "KIND_USER"),
+    ("return shade_kind(shade);", "return KIND_USER;"),
+    ("has != 0 ? found->granule + GRANULE", "has == 0 ? found->granule + GRANULE"),
+    ("shade == SHADE_HEAP || shade == SHADE_FREED", "shade == SHADE_HEAP"),
+    ("addressable_of(shade) != 0 ? granule :", "addressable_of(shade) == 0 ? granule :"),
+    ("found->has_block ? say_block(found, to) : 0", "0"),
+)
 
 ALL = [
     Decisions("asan_judgement_c", ["run/tests/judged.c", "run/status.c"], "run", has_table=True),
     Decisions("asan_shades_c", ["recorder/tests/shades.c"], "recorder"),
+    Decisions(
+        "asan_plan_c", ["recorder/tests/said.c", "recorder/stream/saying.c"], "recorder", planted=WRONG_GROUPS
+    ),
 ]
 
 
@@ -69,13 +92,33 @@ def as_proved(crate: str, room: str) -> Tuple[str, Step]:
     return library, ([f"{kit}/bin/rattle", "build", *words], base.folder)
 
 
+def built(one: Decisions, sources: List[str], library: str, program: str) -> List[str]:
+    """What builds the program that compares these sources with a library."""
+    compiler = shlex.split(os.environ.get("CC", "cc"))
+    return [*compiler, *OPTIONS, f"-iquote{TOP}/{one.folder}", *sources, library, "-o", program]
+
+
+def unseen(one: Decisions, room: str, library: str) -> str:
+    """Returns the first wrong decision with which nothing differs, or nothing."""
+    name, program = f"{room}/planted.c", f"{room}/compare_planted"
+    with open(f"{TOP}/{one.sources[-1]}", encoding="utf-8") as file:
+        right = file.read()
+    for text, wrong in one.planted:
+        if right.count(text) != 1:
+            return f"{one.sources[-1]} has to have once: {text}"
+        with open(name, "w", encoding="utf-8") as file:
+            file.write(right.replace(text, wrong))
+        made = ran(built(one, [*one.sources[:-1], name], library, program), TOP)
+        if made.returncode or ran([program], TOP).returncode != 1:
+            return f"nothing differs with: {wrong}\n{made.stdout[-2000:]}"
+    return ""
+
+
 def why_not(one: Decisions, room: str, is_proved: bool) -> str:
     """Returns the difference, or nothing."""
     library, step = as_proved(one.crate, room) if is_proved else by_rt(one.crate)
     program = f"{room}/compare_{one.crate}"
-    compiler = shlex.split(os.environ.get("CC", "cc"))
-    built = [*compiler, *OPTIONS, f"-iquote{TOP}/{one.folder}", *one.sources, library, "-o", program]
-    steps = (step, (built, TOP), ([program], TOP))
+    steps = (step, (built(one, one.sources, library, program), TOP), ([program], TOP))
     printed = ""
     for argv, folder in steps:
         done = ran(argv, folder)
@@ -84,7 +127,7 @@ def why_not(one: Decisions, room: str, is_proved: bool) -> str:
             return f"{' '.join(argv)}:\n{printed[-6000:]}"
     table = f"{TOP}/{os.path.splitext(one.sources[0])[0]}.txt"
     if not one.has_table:
-        return ""
+        return unseen(one, room, library)
     with open(table, encoding="utf-8") as file:
         is_same = file.read() == printed
     return "" if is_same else f"{table} has to be what {one.sources[0]} prints:\n{printed}"

@@ -3,7 +3,7 @@
 
 usage: tests/fuzz.py [--draws N] [--seed S] [--batch B] PROGRAM..
 
-Draws N traces, good and damaged, in both versions of the format, and puts them to the program in
+Draws N traces, good and damaged, in each version of the format, and puts them to the program in
 batches of up to 256: as files, through pipes and a standard input with writes cut anywhere, over
 sockets to `asancol serve`, with --live, and with options at the ends of their ranges. Everything
 that is printed, and the status, has to be what `oracle.py` says, which was written from the

@@ -4,7 +4,7 @@
 usage: tests/oracle.py [--limit L] [--quarantine B] [--failed-read] TRACE..
 
 It was written from docs/FORMAT.md (a stream, ranges, flaws, fates, lines) and docs/inside/MODEL.md (the
-six events, rule by rule) alone, and shares nothing with the code. It keeps all that was marked,
+events, rule by rule) alone, and shares nothing with the code. It keeps all that was marked,
 oldest first, and works out the 8 states of a granule anew for each question. `fuzz.py` holds the
 program to it.
 
@@ -15,11 +15,11 @@ the text of all traces, and ends with the status that asancol has to end with.
 import sys
 from typing import Dict, List, NamedTuple, Optional, Tuple
 
-HEADERS = {b"ASTR\x01\0\0\0": 1, b"ASTR\x02\0\0\0": 2}
-LOAD, STORE, MALLOC, FREE, POISON, UNPOISON, CLOSE = 1, 2, 3, 4, 5, 6, 7
+HEADERS = {b"ASTR\x01\0\0\0": 1, b"ASTR\x02\0\0\0": 2, b"ASTR\x03\0\0\0": 3}
+LOAD, STORE, MALLOC, FREE, POISON, UNPOISON, CLOSE, ANEW = 1, 2, 3, 4, 5, 6, 7, 8
 
 ADDRESSES_END = 1 << 47
-MAX_REGION = {1: 1 << 28, 2: 1 << 32}
+MAX_REGION = {1: 1 << 28, 2: 1 << 32, 3: 1 << 32}
 MAX_LIMIT = 1 << 24
 DEFAULT_QUARANTINE = 1 << 28
 REDZONE = 32
@@ -40,7 +40,8 @@ CLASSES = {
 
 
 class Event(NamedTuple):
-    """A record. `size` is the width of a load or a store, and 0 of a free. `kind` is of a poison."""
+    """A record. `size` is the width of a load or a store, and 0 of a free. `kind` is of a poison.
+    All three are 0 of an anew."""
 
     code: int
     at: int
@@ -69,8 +70,10 @@ def length_of(code: int, version: int) -> int:
         return 10
     if code == FREE:
         return 9
-    if code == POISON and version == 2:
+    if code == POISON and version >= 2:
         return 18
+    if code == ANEW and version == 3:
+        return 1
     return 17 if code in (MALLOC, POISON, UNPOISON) else 0
 
 
@@ -85,7 +88,9 @@ def event_of(record: bytes, version: int) -> Event:
         return Event(code, number_in(record, 2), record[1], 0)
     if code == FREE:
         return Event(code, number_in(record, 1), 0, 0)
-    if code == POISON and version == 2:
+    if code == ANEW:
+        return Event(code, 0, 0, 0)
+    if code == POISON and version >= 2:
         return Event(code, number_in(record, 2), number_in(record, 10), record[1])
     return Event(code, number_in(record, 1), number_in(record, 9), 0)
 
@@ -94,6 +99,8 @@ def flaw_of(event: Event, version: int) -> Optional[str]:
     """The first flaw of an event's numbers, in the order of FORMAT.md's table."""
     if event.code == FREE:
         return "range" if event.at >= ADDRESSES_END else None
+    if event.code == ANEW:
+        return None
     if event.code in (LOAD, STORE):
         if event.size not in (1, 2, 4, 8):
             return "width"
@@ -198,6 +205,9 @@ class SlowChecker:
             return None
         if event.code == UNPOISON:
             self.mark("unpoison", event.at, event.at + event.size, ADDRESSABLE)
+            return None
+        if event.code == ANEW:
+            self.live, self.held, self.marks = {}, [], []
             return None
         return self.access(event)
 

@@ -15,15 +15,16 @@
    What does not look like a check stays as it is. */
 #include "clang/checks.hpp"
 
-#include <llvm/Config/llvm-config.h>
+#include <llvm/ADT/DepthFirstIterator.h>
+#include <llvm/ADT/STLExtras.h>
 #include <llvm/IR/Dominators.h>
 #include <llvm/IR/IRBuilder.h>
-#include <llvm/IR/InstIterator.h>
 #include <llvm/IR/Module.h>
 #include <llvm/IR/Operator.h>
 #include <llvm/IR/PatternMatch.h>
 #include <llvm/Transforms/Utils/Local.h>
 
+#include <cstring>
 #include <map>
 #include <vector>
 

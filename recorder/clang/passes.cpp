@@ -6,7 +6,6 @@
 #include <llvm/Support/CommandLine.h>
 
 #include "clang/checks.hpp"
-#include "clang/loops.hpp"
 #include "clang/plugin.h"
 
 #include <memory>
@@ -25,8 +24,9 @@ bool checks_come_early()
 
 /* Clang tells LLVM of AddressSanitizer's pass after it has loaded its plugins, and so before the start of the passes.
    A pass that is added there, once, comes behind it. */
-void add_checks(PassBuilder &builder, bool is_early)
+void add_checks(PassBuilder &builder)
 {
+    bool is_early = checks_come_early();
     auto is_added = std::make_shared<bool>(false);
     builder.registerPipelineStartEPCallback([&builder, is_added, is_early](ModulePassManager &, auto...) {
         auto add = [](ModulePassManager &passes, auto...) { passes.addPass(cheaper_checks()); };
@@ -43,11 +43,7 @@ void add_checks(PassBuilder &builder, bool is_early)
 }
 } // namespace
 
-extern "C" void asancol_add_passes(void *builder, tested_loops loops)
+extern "C" void asancol_add_passes(void *builder)
 {
-    auto &of = *static_cast<PassBuilder *>(builder);
-    bool is_early = checks_come_early();
-    if (loops != LOOPS_NONE)
-        add_loops(of, loops == LOOPS_LIMITED, is_early);
-    add_checks(of, is_early);
+    add_checks(*static_cast<PassBuilder *>(builder));
 }

@@ -25,10 +25,6 @@ struct plugin_2 {
 
 enum { OLDEST = 13, NEWEST = 99 };
 
-#ifndef TESTED_LOOPS
-#define TESTED_LOOPS LOOPS_NONE
-#endif
-
 /* The major version of LLVM, by the version of its symbols; or 0. */
 static unsigned version_of_llvm(void)
 {
@@ -55,11 +51,11 @@ static void add(void *builder)
     int folder = end == NULL ? 0 : (int)(end - self.dli_fname) + 1;
     snprintf(path, sizeof path, "%.*s" CLANG_FILE_OF, folder, self.dli_fname, major);
     void *passes = dlopen(path, RTLD_NOW | RTLD_LOCAL);
-    void (*add_passes)(void *, enum tested_loops) = NULL;
+    void (*add_passes)(void *) = NULL;
     if (passes != NULL)
         *(void **)&add_passes = dlsym(passes, ADD_PASSES_NAME);
     if (add_passes != NULL)
-        add_passes(builder, TESTED_LOOPS);
+        add_passes(builder);
 }
 
 static struct plugin answer(void)

@@ -5,15 +5,9 @@
 #ifndef ASANCOL_CLANG_PLUGIN_H
 #define ASANCOL_CLANG_PLUGIN_H
 
-/* What Clang loads: to make checks cheaper, to test loops as a whole besides, and the same with no limit on the code
-   that copies add. By its name a cache of compiled files knows which. Beside them are the passes for each major version
-   of LLVM. */
+/* What Clang loads; and beside it the passes for each major version of LLVM. */
 #define CLANG_FILE "libasancol_clang.so"
-#define CLANG_LOOPS_FILE "libasancol_clang_loops.so"
-#define CLANG_ALL_LOOPS_FILE "libasancol_clang_all_loops.so"
 #define CLANG_FILE_OF "libasancol_clang_%u.so"
-
-enum tested_loops { LOOPS_NONE, LOOPS_LIMITED, LOOPS_ALL };
 
 /* The first major version of LLVM that asks for its plugins in another form. */
 enum { LLVM_OF_FORM_2 = 22 };

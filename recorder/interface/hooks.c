@@ -88,5 +88,4 @@ const struct recorder_hooks asancol_hooks = {
     .stream = &stream_page.stream,
     .reports = &reports,
     .takes_frames = &__asan_option_detect_stack_use_after_return,
-    .has_threads = &threads_started,
 };

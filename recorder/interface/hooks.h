@@ -47,7 +47,6 @@ struct recorder_hooks {
     const struct stream *stream;
     const struct reports *reports;
     const int *takes_frames;
-    const _Atomic bool *has_threads;
 };
 
 #ifdef IN_SHARED_OBJECT

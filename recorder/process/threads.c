@@ -363,7 +363,6 @@ static AS_TABLE struct start starts[STARTS];
 static _Atomic int starts_used; /* as many at once, at most */
 static pthread_key_t at_end;
 static _Atomic bool has_key;
-_Atomic bool threads_started;
 
 /* The C library calls it at the end of a thread, as the destructor of a key. */
 static void end_thread(void *unused)
@@ -472,7 +471,6 @@ static uintptr_t find_real(_Atomic uintptr_t *real, const char *name)
 static struct start *prepare(const pthread_attr_t *attributes, void *argument, uintptr_t caller)
 {
     bool is_idle = atomic_load_explicit(&stream_page.stream.is_idle, memory_order_relaxed);
-    atomic_store_explicit(&threads_started, true, memory_order_relaxed);
     init_order_ends();
     unsigned number = thread_create(is_idle ? 0 : call_site_of(caller));
     struct start *start = atomic_load(&has_key) ? take_start() : NULL;
@@ -708,9 +706,6 @@ REPLACES void _Unwind_SetIP(struct _Unwind_Context *context, _Unwind_Ptr address
     __attribute__((alias("own_Unwind_SetIP")));
 
 #else
-
-/* Nobody says when the first one is created. */
-_Atomic bool threads_started = true;
 
 void threads_find_jumps(void)
 {

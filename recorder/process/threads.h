@@ -44,10 +44,6 @@ struct stack_switch {
     bool says_stacks; /* contexts on a stack of their own say where that is */
 };
 
-/* Whether the program has ever asked for a second thread: that was said before there was one. Any thread may read it at
-   any time, with no order to anything else. */
-extern _Atomic bool threads_started;
-
 /* What threads that were created are to be given, and have not taken yet. */
 void threads_visit_waiting(void (*visit)(uintptr_t argument));
 

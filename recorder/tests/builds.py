@@ -376,7 +376,7 @@ def check_passed_on(suite, folder, compiler):
     wanted = run([compiler.name, "--version"], folder).stdout + b"asancol-cc (asancol) " + release
     expect(made.cc("--version"), wanted, "--version")
     shown = made.cc("--asancol-help")
-    expect((b"  --asancol-loops " in shown, shown.endswith(b"\nasancol " + release)), (True, True), shown)
+    expect((b"  --asancol-all " in shown, shown.endswith(b"\nasancol " + release)), (True, True), shown)
     ours = run([CC, "-v"], folder, ASANCOL_CC=compiler.name)
     theirs = run([compiler.name, "-v"], folder)
     expect((ours.returncode, ours.stderr.splitlines()[-1]), (0, theirs.stderr.splitlines()[-1]), "-v")

@@ -1,14 +1,15 @@
-"""Clang's checks that a plugin makes cheaper: when it is given, what it makes, and the same reports without it by each
-version (passes.py has the comparison)."""
+"""Clang's checks that a plugin makes cheaper: when it is built and given, what it makes, and the same reports without
+it by each version (passes.py has the comparison)."""
 
+import os
 import re
 import shutil
-from typing import List, Sequence
+from typing import List, Sequence, Tuple
 
 from drawn import expect_same, recorded
 from inline import SAME
 from passes import BY_GCC, SOURCES, check_same, make, without_passes
-from support import CC, RECORDER, TESTS, Compiler, Suite, build, expect, leave_out, run, versions_of, write
+from support import CC, RECORDER, TESTS, TOP, Compiler, Suite, build, expect, leave_out, run, versions_of, write
 
 OWN = "asancol_report_"
 LEVELS = ("-O1", "-O2", "-O3", "-Os")
@@ -96,6 +97,73 @@ def check_options(_suite: Suite, folder: str, compiler: Compiler) -> None:
     expect((made.returncode, wanted in made.stderr), (0, True), "without it, with -v")
 
 
+def check_broken(_suite: Suite, folder: str, compiler: Compiler) -> None:
+    """Passes that can't be loaded break no build."""
+    where, plugin = f"{folder}/plain-wrappers", "libasancol_clang.so"
+    without_passes(where)
+    os.link(f"{RECORDER}/{plugin}", f"{where}/{plugin}")
+    write(folder, any_c=ANY)
+
+    def compiles(name: str, *words: str) -> Tuple[int, bytes]:
+        made = run([f"{where}/asancol-cc", "-O2", *words, "-c", "any.c"], folder, ASANCOL_CC=name)
+        return made.returncode, made.stderr
+
+    for major in range(13, 23):
+        write_as(where, f"libasancol_clang_{major}.so", "")
+    expect(compiles(compiler.name), (0, b""), "without passes")
+    says = "case $* in *--version*) echo clang version 39.0.1; exit;; esac"
+    other = write_as(folder, "other", f'#!/bin/sh\n{says}\nexec {compiler} "$@"\n')
+    os.chmod(other, 0o755)
+    for has_file, wanted in ((False, b"clang_39.so: not found beside"), (True, b"clang_39.so: whether this Clang can")):
+        if has_file:
+            write_as(where, "libasancol_clang_39.so", "")
+        expect(compiles(other), (0, b""), "another version")
+        status, said = compiles(other, "-v")
+        expect((status, wanted in said), (0, True), "another version, with -v")
+    os.unlink(f"{where}/{plugin}")
+    write_as(where, plugin, "")
+    expect(compiles(compiler.name), (0, b""), "without a plugin")
+    status, said = compiles(compiler.name, "-v")
+    expect((status, f"{plugin}: it can't be loaded".encode() in said), (0, True), "without a plugin, with -v")
+
+
+def write_as(folder: str, name: str, text: str) -> str:
+    os.makedirs(os.path.dirname(f"{folder}/{name}"), exist_ok=True)
+    with open(f"{folder}/{name}", "w", encoding="utf-8") as file:
+        file.write(text)
+    return f"{folder}/{name}"
+
+
+def check_left_out(_suite: Suite, folder: str) -> None:
+    """Passes that do not compile are named and left out, and tried again with other headers. make goes on."""
+    for name in os.listdir(RECORDER):
+        if os.path.isdir(f"{RECORDER}/{name}") and name != "out":
+            os.symlink(f"{RECORDER}/{name}", f"{folder}/{name}")
+    says = f"case $1 in --version) echo 77.1.0;; *) echo {folder}/headers;; esac"
+    os.chmod(write_as(folder, "llvm-config", f"#!/bin/sh\n{says}\n"), 0o755)
+    product, said = f"{folder}/libasancol_clang_77.so", f"{folder}/out/clang/77/checks.said"
+    for text in ("#error one\n", "#error other\n"):
+        for name in ("Config/llvm-config.h", "IR/PassManager.h", "Passes/PassBuilder.h"):
+            write_as(folder, f"headers/llvm/{name}", text)
+        write_as(folder, os.path.basename(product), "")
+        os.utime(product, (1, 1))
+        stamps = set()
+        for _ in range(2):
+            made = run(["make", "-s", "-f", f"{RECORDER}/Makefile", f"TOP={TOP}", f"LLVM_CONFIGS={folder}/llvm-config",
+                        "libasancol_clang_77.so", "libasancol_clang.so"], folder)
+            of = f"{text}{made.stderr.decode()}"
+            there = [os.path.exists(it) for it in (product, f"{folder}/libasancol_clang.so")]
+            expect((made.returncode, there), (0, [False, True]), of)
+            expect(b"libasancol_clang_77.so is left out: checks.cpp does not compile" in made.stderr, True, of)
+            stamps.add(os.stat(said).st_mtime_ns)
+        with open(said, encoding="utf-8") as file:
+            expect((text.strip() in file.read(), len(stamps)), (True, 1), f"{text}: compiled once")
+
+
+def tests_of_all(suite: Suite) -> None:
+    suite.test("plugin that does not compile", check_left_out)
+
+
 def tests_of(suite: Suite, compiler: Compiler) -> None:
     """For each version of LLVM."""
     suite.test(f"{compiler} cheaper checks made", check_made, compiler)
@@ -113,6 +181,7 @@ def tests(suite: Suite, compiler: Compiler) -> None:
     if not is_given(compiler, "-O2"):
         return
     suite.test(f"{compiler} cheaper checks options", check_options, compiler)
+    suite.test(f"{compiler} cheaper checks broken", check_broken, compiler)
     suite.test(f"{compiler} cheaper checks size", check_size, compiler)
     levels = [["-O3", "-march=haswell"], ["-O2", "-fPIC"], ["-O2", "-fno-pie", "-no-pie"]]
     if shutil.which("ld.lld"):

@@ -47,7 +47,7 @@ COUNTED = [
 SMALL = "-DSIDE=16"
 
 # Objects, whose code is measured.
-OBJECTS = ["speed.c", "containers.cpp", "loops/loops.c", "inline/drawn.c"]
+OBJECTS = ["speed.c", "containers.cpp", "inline/drawn.c"]
 
 
 class Key(NamedTuple):
@@ -106,7 +106,7 @@ def instructions(program: str, folder: str, function: str, words: List[str]) -> 
 
 def code_bytes(compiler: Compiler, folder: str, source: str) -> int:
     path = f"{folder}/{compiler}-{os.path.basename(source)}.o"
-    compile_by(compiler, source, path, "-c", *([f"-I{TESTS}/loops"] if source.startswith("loops/") else []))
+    compile_by(compiler, source, path, "-c")
     lines = [line.split() for line in run(["size", "-A", path], folder).stdout.decode().splitlines()]
     return sum(int(line[1]) for line in lines if line and line[0].startswith(".text"))
 

@@ -78,8 +78,6 @@ int main(int count, char **argv)
     say_as(called.name);
     struct own_options own = own_options_take(argv, &called);
     request->is_all = own.is_all;
-    request->tests_loops = own.has_loops;
-    request->has_all_loops = own.has_all_loops;
     request->has_no_run = own.has_no_run;
     job.command = command_of(own.compiler, job.front);
     read_arguments(&job);

@@ -23,8 +23,8 @@ static _Noreturn void show_help(void)
 
 struct own_options own_options_take(char **argv, const struct called *called)
 {
-    static const char all[] = "--asancol-all", all_loops[] = "--asancol-all-loops", compiler[] = "--asancol-compiler=";
-    static const char help[] = "--asancol-help", loops[] = "--asancol-loops", no_run[] = "--asancol-no-run";
+    static const char all[] = "--asancol-all", compiler[] = "--asancol-compiler=";
+    static const char help[] = "--asancol-help", no_run[] = "--asancol-no-run";
     const char *setting = getenv("ASANCOL_ALL");
     struct own_options own = {.compiler = called->compiler, .is_all = setting != NULL && strcmp(setting, "1") == 0};
     if (own.compiler == NULL)
@@ -33,10 +33,6 @@ struct own_options own_options_take(char **argv, const struct called *called)
     for (char **word = argv + 1; *word != NULL; word++) {
         if (strcmp(*word, all) == 0)
             own.is_all = true;
-        else if (strcmp(*word, loops) == 0)
-            own.has_loops = true;
-        else if (strcmp(*word, all_loops) == 0)
-            own.has_loops = own.has_all_loops = true;
         else if (strcmp(*word, no_run) == 0)
             own.has_no_run = true;
         else if (strcmp(*word, help) == 0)

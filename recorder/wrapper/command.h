@@ -12,7 +12,7 @@
 /* The wrapper's own options. ccache sees options, and no variables. */
 struct own_options {
     const char *compiler; /* in words, or null */
-    bool is_all, has_loops, has_all_loops, has_no_run;
+    bool is_all, has_no_run;
 };
 
 /* Takes its options out of the arguments, and what they do not say from its name, or else the environment. */

@@ -88,8 +88,6 @@ static const struct compiler compilers[] = {
         .header = "cold_reports.h",
         .intrinsics = "clang_intrinsics.h",
         .passes = CLANG_FILE,
-        .loops = CLANG_LOOPS_FILE,
-        .all_loops = CLANG_ALL_LOOPS_FILE,
     },
 };
 

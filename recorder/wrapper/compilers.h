@@ -41,8 +41,6 @@ struct compiler {
     const char *own_number; /* before a number that makes the noted switches of each object its own, or null */
     const char *plugin;     /* a file of the recorder's that may be there, and adds checks (plugin.c); or null */
     const char *passes;     /* one that may be there, and makes checks cheaper (passes.c); or null */
-    const char *loops;      /* the same, and it tests loops as a whole */
-    const char *all_loops;  /* the same, whatever code that adds */
     struct flags without_plugin; /* what C and C++ are compiled with if it is not */
     bool has_driver;        /* a program that runs it, and hands it arguments after -Xclang without a look at them */
     enum check_compiler checks_of; /* which arguments take some of its checks away */

@@ -13,7 +13,6 @@
 #include "common/text.h"
 #include "plugin/plugin.h"
 #include "wrapper/arguments.h"
-#include "wrapper/passes.h"
 #include "wrapper/plugin.h"
 #include "wrapper/say.h"
 #include "wrapper/self.h"
@@ -211,7 +210,7 @@ void compiling_add_after(struct strings *line, const struct job *job)
     bool has_headers = request->inputs.has_text && !request->is_shown;
     if (compiler->intrinsics != NULL && has_headers)
         add_file(line, "-include", compiler->intrinsics);
-    if (request->is_all || !request->inputs.has_compiled || makes_checks_cheaper(job))
+    if (request->is_all || !request->inputs.has_compiled || job->passes != NULL)
         return;
     strings_add_all(line, compiler->after.items, compiler->after.count);
     if (compiler->header != NULL && has_headers)

@@ -10,10 +10,8 @@
     "Runs GCC or Clang. What it links can be checked, and checks itself.\n" \
     "Options:\n" \
     "  --asancol-all                             record each access\n" \
-    "  --asancol-all-loops                       check all loops at once, with Clang\n" \
     "  --asancol-compiler=command                the compiler to run\n" \
     "  --asancol-help                            print this help\n" \
-    "  --asancol-loops                           check a loop at once, with Clang\n" \
     "  --asancol-no-run                          let the program start no asancol-run\n" \
     "  -fsanitize-address-use-after-return=mode  find uses after return (never)\n" \
     "asancol-cc(1) has the settings. asancol-run --help is about runs.\n"

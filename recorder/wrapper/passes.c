@@ -53,7 +53,7 @@ static bool can_be_loaded(const char *path)
 }
 
 /* Checks for other processors stay as they are. */
-static bool has_cheaper_checks(const struct job *job)
+static bool can_be_cheaper(const struct job *job)
 {
 #ifdef __x86_64__
     return job->target == NULL;
@@ -71,16 +71,13 @@ static const char *file_for(const struct job *job)
     bool is_compiled = compiler != NULL && request->inputs.has_compiled && !request->is_shown;
     if (!is_compiled || !request->is_optimized || request->is_all || request->refusal != NULL)
         return NULL;
-    if (request->tests_loops)
-        return request->has_all_loops ? compiler->all_loops : compiler->loops;
-    return has_cheaper_checks(job) ? compiler->passes : NULL;
+    return can_be_cheaper(job) ? compiler->passes : NULL;
 }
 
 static void say(const struct job *job, const char *of, const char *why)
 {
-    const char *loops = job->request.tests_loops ? ", and loops are checked access by access" : "";
     char text[256];
-    snprintf(text, sizeof text, "%s: checks take more code and time%s", why, loops);
+    snprintf(text, sizeof text, "%s: checks take more code and time", why);
     if (job->request.is_verbose)
         warn(of, text);
 }
@@ -104,9 +101,4 @@ const char *passes_of(const struct job *job)
     else
         return plugin;
     return NULL;
-}
-
-bool makes_checks_cheaper(const struct job *job)
-{
-    return job->passes != NULL && has_cheaper_checks(job);
 }

@@ -53,8 +53,6 @@ struct request {
     bool is_dry;         /* what would be run is printed, and not run */
     bool is_optimized;   /* by its last word of that kind */
     bool is_verbose;     /* the compiler says what it does, by -v */
-    bool tests_loops;    /* as a whole, where the compiler has a plugin for it */
-    bool has_all_loops;  /* whatever code that adds */
     bool has_no_run;     /* the program starts no asancol-run, unless ASANCOL_RUN says so */
     bool is_all;         /* each access is a call, and not only one that its check finds bad */
     bool is_libcxx;      /* the library of C++ is that of LLVM */

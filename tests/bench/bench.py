@@ -5,9 +5,10 @@ usage: tests/bench/bench.py [--rounds N] [--millions N] [--peer PEER] [--page FI
 
 Traces are made by traces.c, which a C compiler has to build. Each is checked on one thread, from standard input, with
 and without huge pages, at one and at N million events (16), interleaved; the least processor time of the rounds (9)
-counts, user and system. Then eight traces by `check`, and one free that lets a million blocks go. With words, only
-workloads whose names have one of them. With --peer another program with the same output runs between PROGRAM's runs,
-and the table says how many times its time PROGRAM took. With --page the tables of that file are replaced.
+counts, user and system. Then eight traces by `check`, one free that lets a million blocks go, and short histories. With
+words, only workloads whose names have one of them. With --peer another program with the same output runs between
+PROGRAM's runs, and the table says how many times its time PROGRAM took. With --page the tables of that file are
+replaced.
 """
 
 import argparse
@@ -112,6 +113,11 @@ class Bench:
         costs = [least([run([self.program], it, True) for _ in range(self.rounds)]) for it in (path, before)]
         return max(0.0, costs[0].processor - costs[1].processor)
 
+    def histories(self) -> Cost:
+        """Returns the cost of a million events, a hundred of which at a time are a history."""
+        path = self.trace("anew", MILLION)
+        return least([run([self.program], path, True) for _ in range(self.rounds)])
+
 
 def table_of_workloads(bench: Bench, names: List[str], millions: int) -> List[str]:
     small, large = MILLION, millions * MILLION
@@ -141,6 +147,7 @@ def table_of_workloads(bench: Bench, names: List[str], millions: int) -> List[st
 
 def table_of_others(bench: Bench) -> List[str]:
     alone, together = bench.files(4 * MILLION)
+    histories = bench.histories()
     return [
         "| what | processor seconds | seconds |",
         "|---|---|---|",
@@ -148,6 +155,7 @@ def table_of_others(bench: Bench) -> List[str]:
         f"{alone.wall:.2f} |",
         f"| the same by one `check` with {FILES_WORKERS} workers | {together.processor:.2f} | {together.wall:.2f} |",
         f"| one free that lets a million blocks go | {bench.release():.2f} | |",
+        f"| a million events in histories of 100 | {histories.processor:.2f} | {histories.wall:.2f} |",
     ]
 
 

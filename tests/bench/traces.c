@@ -3,19 +3,21 @@
        traces WORKLOAD EVENTS FILE
 
    `local`: a stack and eight hot blocks, with 2 % mallocs and frees. `buggy`: the same, and 1 % of the accesses are
-   bad. `random`: accesses all over a million blocks. `churn`: 80 % mallocs and frees, 16,384 live blocks. `poison`: one
-   poison or unpoison of up to 2^28 bytes in 1,000 events. `release`: mallocs and frees, and then one free of a block
-   that pushes all others out of the quarantine. Every stream is of version 1 and closed. */
+   bad. `random`: accesses all over a million blocks. `churn`: 80 % mallocs and frees, 16,384 live blocks. `anew`: the
+   same, in histories of 100 events. `poison`: one poison or unpoison of up to 2^28 bytes in 1,000 events. `release`:
+   mallocs and frees, and then one free of a block that pushes all others out of the quarantine. Every stream is closed,
+   and of version 1, except that of `anew`, which needs version 3. */
 #include <stdbool.h>
 #include <stdint.h>
 #include <stdio.h>
 #include <stdlib.h>
 #include <string.h>
 
-enum { CODE_LOAD = 1, CODE_STORE, CODE_MALLOC, CODE_FREE, CODE_POISON, CODE_UNPOISON, CODE_CLOSE };
-enum { GRANULE = 8, REDZONE = 32, CLASSES = 256, HOT = 8, SLOTS = 64 };
+enum { CODE_LOAD = 1, CODE_STORE, CODE_MALLOC, CODE_FREE, CODE_POISON, CODE_UNPOISON, CODE_CLOSE, CODE_ANEW };
+enum { GRANULE = 8, REDZONE = 32, CLASSES = 256, HOT = 8, SLOTS = 64, HISTORY = 100 };
 
 #define QUARANTINE ((uint64_t)1 << 28)
+#define HEAP_START UINT64_C(0x602000000000)
 
 struct block {
     uint64_t at, size;
@@ -31,7 +33,7 @@ struct blocks {
 static struct {
     uint64_t top, held_bytes;
     struct blocks free[CLASSES], held;
-} heap = {.top = UINT64_C(0x602000000000)};
+} heap = {.top = HEAP_START};
 
 static struct {
     FILE *file;
@@ -241,24 +243,51 @@ static void all_over(uint64_t events)
     }
 }
 
+/* A malloc, a free or an access, with about `most` live blocks. */
+static void step(struct blocks *live, uint64_t most)
+{
+    uint64_t draw = below(100);
+    if (live->count == 0 || draw < (live->count < most ? 60 : 40)) {
+        push(live, new_block(1 + below(512)));
+        return;
+    }
+    size_t i = below(live->count);
+    struct block block = live->all[i];
+    if (draw >= 80) {
+        good_access(block.at, block.size);
+        return;
+    }
+    live->all[i] = live->all[--live->count];
+    free_block(block);
+}
+
 static void churn(uint64_t events)
 {
     struct blocks live = {0};
-    uint64_t most = events / 8 < 16384 ? events / 8 : 16384;
-    while (out.left > 0) {
-        uint64_t draw = below(100);
-        if (live.count == 0 || draw < (live.count < most ? 60 : 40)) {
-            push(&live, new_block(1 + below(512)));
-        } else {
-            size_t i = below(live.count);
-            struct block block = live.all[i];
-            if (draw < 80) {
-                live.all[i] = live.all[--live.count];
-                free_block(block);
-            } else {
-                good_access(block.at, block.size);
-            }
-        }
+    while (out.left > 0)
+        step(&live, events / 8 < 16384 ? events / 8 : 16384);
+}
+
+static void begin_anew(struct blocks *live)
+{
+    static const unsigned char record[] = {CODE_ANEW};
+    put_record(record, sizeof record);
+    live->count = 0;
+    heap.top = HEAP_START;
+    heap.held.first = heap.held.count = 0;
+    heap.held_bytes = 0;
+    for (int i = 0; i < CLASSES; i++)
+        heap.free[i].count = 0;
+}
+
+static void histories(void)
+{
+    struct blocks live = {0};
+    for (uint64_t i = 1; out.left > 0; i++) {
+        if (i % HISTORY == 0)
+            begin_anew(&live);
+        else
+            step(&live, HISTORY);
     }
 }
 
@@ -310,16 +339,18 @@ int main(int count, char **argv)
     out.file = count > 3 && events > 1 ? fopen(argv[3], "wb") : NULL;
     out.left = events;
     if (out.file == NULL) {
-        fputs("usage: traces local|buggy|random|churn|poison|release EVENTS FILE\n", stderr);
+        fputs("usage: traces local|buggy|random|churn|anew|poison|release EVENTS FILE\n", stderr);
         return 2;
     }
-    fwrite("ASTR\1\0\0\0", 1, 8, out.file);
+    fwrite(strcmp(way, "anew") == 0 ? "ASTR\3\0\0\0" : "ASTR\1\0\0\0", 1, 8, out.file);
     if (strcmp(way, "local") == 0 || strcmp(way, "buggy") == 0)
         local(events, *way == 'b' ? 10000 : 0);
     else if (strcmp(way, "random") == 0)
         all_over(events);
     else if (strcmp(way, "churn") == 0)
         churn(events);
+    else if (strcmp(way, "anew") == 0)
+        histories();
     else if (strcmp(way, "poison") == 0)
         poison();
     else if (strcmp(way, "release") == 0)

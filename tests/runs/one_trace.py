@@ -88,7 +88,7 @@ def headers_and_codes(program):
         (b"ASTX\x01\0\0\0", 3, "p0 end malformed header events 0 offset 0 reports 0\n"),
         (b"ASTX\x01\0\0", 3, "p0 end truncated events 0 offset 0 reports 0\n"),
         (
-            closed(header=b"ASTR\x03\0\0\0"),
+            closed(header=b"ASTR\x04\0\0\0"),
             3,
             "p0 end malformed header events 0 offset 0 reports 0\n",
         ),

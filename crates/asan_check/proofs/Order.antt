@@ -7,6 +7,7 @@ use Rattle.std.proofs.lemmas.List.{take-append-drop, length-drop}
 use Rattle.trace_record.specs.declared.event.Event.{Event}
 use Rattle.asan_check.specs.declared.report.Report.{Report}
 use Rattle.asan_check.specs.Verdicts.{verdict, verdicts_of}
+use Rattle.asan_check.specs.Traces as trace
 
 -- the history of the first n events is what is left of the whole one without its newest
 pub first_of : (events : List Event) (n : ℕ) → n ≤ length events
@@ -27,3 +28,12 @@ verdicts_begin bound (e ∷ newer) past =
     let before = verdicts_begin bound newer past in
     let last = option_to_list (verdict bound (newer ++ past) e) in
     (before.0 ++ last, ap (λ rs. rs ++ last) before.1 ∙ append_assoc (verdicts_of bound past) before.0 last)
+
+-- the same of the events of a trace
+pub trace_verdicts_begin : (bound : ℕ) (newer past : List Event)
+    → (rest : List Report) × (trace.verdicts_of bound (newer ++ past) ≡ trace.verdicts_of bound past ++ rest)
+trace_verdicts_begin bound [] past = ([], sym (append-nil (trace.verdicts_of bound past)))
+trace_verdicts_begin bound (e ∷ newer) past =
+    let before = trace_verdicts_begin bound newer past in
+    let last = option_to_list (trace.verdict bound (newer ++ past) e) in
+    (before.0 ++ last, ap (λ rs. rs ++ last) before.1 ∙ append_assoc (trace.verdicts_of bound past) before.0 last)

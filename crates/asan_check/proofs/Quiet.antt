@@ -6,8 +6,8 @@ use Rattle.std.specs.Prelude.{reverse}
 use Rattle.std.proofs.lemmas.List.{append-nil, reverse-append, drop_all}
 use Rattle.trace_record.specs.declared.event.Event.{Event}
 use Rattle.asan_check.specs.declared.checker.Checker.{Checker}
-use Rattle.asan_check.specs.Standing.{ShowsHistory, AreQuiet}
-use Rattle.asan_check.specs.Verdicts.{fault_of, verdicts_of}
+use Rattle.asan_check.specs.Standing.{ShowsTrace, AreQuiet}
+use Rattle.asan_check.specs.Traces.{fault_of, verdicts_of}
 
 -- a good event has no verdict
 quiet_more : (bound : ℕ) (past : List Event) (e : Event) → fault_of bound past e ≡ None
@@ -18,8 +18,8 @@ quiet_more bound past e none = rw none (append-nil (verdicts_of bound past))
 pub one_more_quiet : {A : Type 0} (c : Checker A) (events : List Event) (count : ℕ) (e : Event)
     → take (count + 1) events ≡ take count events ++ e ∷ []
     → AreQuiet c events count
-    → ((bound : ℕ) (past : List Event) → ShowsHistory bound c past
-    → (fault_of bound past e ≡ None) × ShowsHistory bound c (e ∷ past))
+    → ((bound : ℕ) (past : List Event) → ShowsTrace bound c past
+    → (fault_of bound past e ≡ None) × ShowsTrace bound c (e ∷ past))
     → AreQuiet c events (count + 1)
 one_more_quiet c events count e one quiet good bound past shows =
     let front = reverse (take count events) in

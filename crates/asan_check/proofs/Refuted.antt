@@ -12,6 +12,8 @@ use Rattle.asan_check.specs.declared.report.Report.{Report}
 use Rattle.asan_check.specs.declared.checker.Checker.{Checker}
 use Rattle.asan_check.specs.Standing.{bound_of, report_room, reports_of}
 use Rattle.asan_check.specs.Verdicts.{verdicts}
+use Rattle.asan_check.specs.Traces as trace
+use Rattle.trace_record.specs.declared.event.Event.TheVariants as event
 use Rattle.trace_record.specs.declared.shade.Kind.TheVariants as kind
 use Rattle.asan_check.proofs.Examples.{load, store, malloc, poison, poison_of, free, report, usual}
 
@@ -227,6 +229,32 @@ poison_keeps_the_first_kind :
     ∷ load 0x1000 1 refl ∷ [])
     ≢ report 3 (fault.Access false 1 0x1000 0x1000 class.StackBufferOverflow 0xf2) ∷ []
 poison_keeps_the_first_kind = differ _ _ refl refl
+
+-- ---- histories that begin anew
+
+-- a block stays freed
+freed_block_stays_freed :
+    trace.verdicts usual (malloc 0x1000 8 refl ∷ free 0x1000 refl ∷ event.Anew ∷ load 0x1000 1 refl ∷ [])
+    ≢ report 4 (fault.Access false 1 0x1000 0x1000 class.HeapUseAfterFree 0xfd) ∷ []
+freed_block_stays_freed = differ _ _ refl refl
+
+-- a block stays in the way of another
+block_stays_in_the_way :
+    trace.verdicts usual (malloc 0x1000 8 refl ∷ event.Anew ∷ malloc 0x1000 16 refl ∷ [])
+    ≢ report 3 (fault.BadMalloc 0x1000 16) ∷ []
+block_stays_in_the_way = differ _ _ refl refl
+
+-- the numbers of the events begin anew, too
+numbers_begin_anew :
+    trace.verdicts usual (load 0x1000 1 refl ∷ event.Anew ∷ free 0x1000 refl ∷ [])
+    ≢ report 1 (fault.BadFree 0x1000) ∷ []
+numbers_begin_anew = differ _ _ refl refl
+
+-- the reports before it are dropped
+earlier_reports_are_dropped :
+    trace.verdicts usual (free 0x1000 refl ∷ event.Anew ∷ free 0x1000 refl ∷ [])
+    ≢ report 3 (fault.BadFree 0x1000) ∷ []
+earlier_reports_are_dropped = differ _ _ refl refl
 
 -- ---- checkers, once a step has failed or not
 

@@ -1,6 +1,7 @@
 pub mod Codes
 pub mod History
 pub mod Verdicts
+pub mod Traces
 pub mod Lines
 pub mod Appending
 pub mod Standing

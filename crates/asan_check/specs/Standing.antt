@@ -1,4 +1,4 @@
--- Where a checker stands after a history.
+-- Where a checker stands after the events of a trace.
 use Rattle.std.specs.Prelude.{◌≡◌, ℕ, ◌-◌, ◌<◌, ◌⊎◌, Bool, true, false, List, ◌∷◌, ◌++◌, length}
 use Rattle.std.specs.Prelude.{drop, take, reverse, vec_capacity, IsPermutation, IsSome}
 use Rattle.trace_record.specs.declared.event.Event.{Event}
@@ -6,7 +6,8 @@ use Rattle.shadow_map.specs.Shows.{Shows}
 use Rattle.asan_check.specs.declared.checker.Checker.{Checker}
 use Rattle.asan_check.specs.declared.report.Report.{Report}
 use Rattle.asan_check.specs.History.{live, held, marks}
-use Rattle.asan_check.specs.Verdicts.{fault_of, is_access, verdicts_of}
+use Rattle.asan_check.specs.Verdicts.{is_access}
+use Rattle.asan_check.specs.Traces.{since_anew, fault_of, verdicts_of}
 
 module _ {A : Type 0} where
   -- what a contract sees of a checker: whether it has failed, how many events it has checked, its
@@ -42,35 +43,39 @@ module _ {A : Type 0} where
     pub queue : c.book.queue ≡ held bound past
     pub bound_is : bound_of c ≡ bound
 
-  -- the checker stands where this history leads: it hasn't failed, it shows what the history has
-  -- left, it has checked all of its events, and its reports are the verdicts on them
+  -- the same of the history since the last `anew` of a trace
+  abbrev pub ShowsTrace : ℕ → Checker A → List Event → Type 0
+  ShowsTrace bound c past = ShowsHistory bound c (since_anew past)
+
+  -- the checker stands where this trace leads: it hasn't failed, it shows what the trace has left,
+  -- it has checked all of its events, and its reports are the verdicts on them
   pub record Stands (bound : ℕ) (c : Checker A) (past : List Event) : Type 0 where
     pub running : has_failed c ≡ false
-    pub shown : ShowsHistory bound c past
+    pub shown : ShowsTrace bound c past
     pub count : checked_of c ≡ length past
     pub reports : reports_of c ≡ verdicts_of bound past
 
-  -- the checker has failed within this history: its reports are the verdicts on the events that it
-  -- had checked by then, which are the first of the history and so the last of the list
+  -- the checker has failed within this trace: its reports are the verdicts on the events that it
+  -- had checked by then, which are the first of the trace and so the last of the list
   pub record FailedAt (bound : ℕ) (c : Checker A) (past : List Event) : Type 0 where
     pub failed : has_failed c ≡ true
     pub bound_is : bound_of c ≡ bound
     pub within : checked_of c < length past
     pub reports : reports_of c ≡ verdicts_of bound (drop (length past - checked_of c) past)
 
-  -- the checker stands where this history leads, or has failed within it
+  -- the checker stands where this trace leads, or has failed within it
   abbrev pub StandsOrFailed : ℕ → Checker A → List Event → Type 0
   StandsOrFailed bound c past = Stands bound c past ⊎ FailedAt bound c past
 
   -- the first so many of these events change nothing, and nothing is wrong with them: after any
-  -- history that the checker shows, it shows their history too, which has the same verdicts
+  -- trace that the checker shows, it shows the trace with them too, which has the same verdicts
   abbrev pub AreQuiet : Checker A → List Event → ℕ → Type 0
   AreQuiet c events count =
-      (bound : ℕ) (past : List Event) → ShowsHistory bound c past →
-      ShowsHistory bound c (reverse (take count events) ++ past)
+      (bound : ℕ) (past : List Event) → ShowsTrace bound c past →
+      ShowsTrace bound c (reverse (take count events) ++ past)
       × (verdicts_of bound (reverse (take count events) ++ past) ≡ verdicts_of bound past)
 
--- of some events after a history, this many were passed: the next one, if there is one, is no load
+-- of some events after a trace, this many were passed: the next one, if there is one, is no load
 -- and no store, or something is wrong with it
 abbrev pub StopsForAReason : ℕ → List Event → List Event → ℕ → Type 0
 StopsForAReason bound past events count =

@@ -1,4 +1,4 @@
--- What the checker says of each event of a history.
+-- What the checker says of each event of a history, in which no `anew` counts.
 --
 -- The check of an access is that of the paper of 2012. The classes, the verdicts on frees and
 -- mallocs, and that the replay goes on after a report are this project's choice (profile).
@@ -55,6 +55,7 @@ fault_of bound past (event.Malloc r) = malloc_fault bound past r.at r.size
 fault_of bound past (event.Free p) = free_fault bound past p.at
 fault_of bound past (event.Poison s) = None
 fault_of bound past (event.Unpoison r) = None
+fault_of bound past event.Anew = None
 
 -- whether an event is a load or a store
 abbrev pub is_access : Event → Bool
@@ -63,7 +64,7 @@ is_access (event.Store a) = true
 is_access e = false
 
 -- whether an event lays no mark whatever came before it: a load, a store, a malloc or a free at
--- address 0, and a poison or an unpoison of no bytes
+-- address 0, a poison or an unpoison of no bytes, and an `anew`
 abbrev pub marks_none : Event → Bool
 marks_none (event.Load a) = true
 marks_none (event.Store a) = true
@@ -71,6 +72,7 @@ marks_none (event.Malloc r) = r.at == 0
 marks_none (event.Free p) = p.at == 0
 marks_none (event.Poison s) = shade_size s == 0
 marks_none (event.Unpoison r) = r.size == 0
+marks_none event.Anew = true
 
 -- the verdict on an event after a history: a report with the event's number, or nothing
 abbrev pub verdict : ℕ → List Event → Event → Option Report

@@ -12,8 +12,9 @@ ghost use Rattle.shadow_map.specs.Readers.{shadow_of};
 ghost use Rattle.shadow_map.specs.States.{is_addressable, state_of, least_unaddressable};
 ghost use Rattle.shadow_map.specs.States.{bad_byte_of};
 ghost use Rattle.asan_check.specs.History.{marks};
-ghost use Rattle.asan_check.specs.Verdicts.{verdict, fault_of, access_fault, malloc_fault};
-ghost use Rattle.asan_check.specs.Verdicts.{free_fault, is_access, marks_none};
+ghost use Rattle.asan_check.specs.Verdicts.{access_fault, malloc_fault, free_fault};
+ghost use Rattle.asan_check.specs.Verdicts.{is_access, marks_none};
+ghost use Rattle.asan_check.specs.Traces.{since_anew, fault_of, verdict};
 
 use crate::NoMemory;
 use crate::codes::{FREED, class_by, poison_code};
@@ -58,7 +59,8 @@ pub struct Checker<A: Allocator + Copy = Global> {
 
 impl<A: Allocator + Copy> Checker<A> {
     ghost use Rattle.asan_check.specs.Freeing.{IsFreeing};
-    ghost use Rattle.asan_check.specs.Standing.{KeepsTally, ShowsHistory, Stands, FailedAt};
+    ghost use Rattle.asan_check.specs.Standing.{KeepsTally, ShowsHistory, ShowsTrace, Stands};
+    ghost use Rattle.asan_check.specs.Standing.{FailedAt};
     ghost use Rattle.asan_check.specs.Standing.{AreQuiet};
     ghost use Rattle.asan_check.specs.Standing.{has_failed, checked_of, reports_of, bound_of};
     ghost use Rattle.asan_check.specs.Standing.{report_room, StopsForAReason};
@@ -228,7 +230,7 @@ impl<A: Allocator + Copy> Checker<A> {
     /// byte at 2^47 or past it never is. Takes no memory.
     pub fn is_poisoned(&self, at: u64) -> Option<bool>
         ensures stands { (bound : ℕ) (past : List AnEvent) → Stands bound self.now past →
-            result ≡ Some (not (is_addressable (state_of (marks bound past) at))) }
+            result ≡ Some (not (is_addressable (state_of (marks bound (since_anew past)) at))) }
         ensures failed { has_failed self.now ≡ true → result ≡ None }
     {
         Some(self.shadow()?.is_poisoned(at))
@@ -239,7 +241,7 @@ impl<A: Allocator + Copy> Checker<A> {
     pub fn first_poisoned(&self, at: u64, size: u64) -> Option<Option<u64>>
         requires { at + size ≤ address_end }
         ensures stands { (bound : ℕ) (past : List AnEvent) → Stands bound self.now past →
-            result ≡ Some (least_unaddressable (state_of (marks bound past)) at size) }
+            result ≡ Some (least_unaddressable (state_of (marks bound (since_anew past))) at size) }
         ensures failed { has_failed self.now ≡ true → result ≡ None }
     {
         Some(self.shadow()?.first_poisoned(at, size))
@@ -283,7 +285,7 @@ impl<A: Allocator + Copy> Checker<A> {
     fn count_good(&self, events: &[Event]) -> usize
         ensures most { result ≤ length events.now }
         ensures quiet { AreQuiet self.now events.now result }
-        ensures stops { (bound : ℕ) (past : List AnEvent) → ShowsHistory bound self.now past →
+        ensures stops { (bound : ℕ) (past : List AnEvent) → ShowsTrace bound self.now past →
             StopsForAReason bound past events.now result }
     {
         let few = events.len().min(FEW);
@@ -305,7 +307,7 @@ impl<A: Allocator + Copy> Checker<A> {
         requires known { AreQuiet self.now events.now known }
         ensures most { result ≤ length events.now }
         ensures quiet { AreQuiet self.now events.now result }
-        ensures stops { (bound : ℕ) (past : List AnEvent) → ShowsHistory bound self.now past →
+        ensures stops { (bound : ℕ) (past : List AnEvent) → ShowsTrace bound self.now past →
             StopsForAReason bound past events.now result }
     {
         let mut shadow = self.shadow.reader();
@@ -320,11 +322,11 @@ impl<A: Allocator + Copy> Checker<A> {
     #[inline(always)]
     fn is_good(&self, event: &Event) -> bool
         ensures good { IsTrue result → (bound : ℕ) (past : List AnEvent) →
-            ShowsHistory bound self.now past →
+            ShowsTrace bound self.now past →
             (fault_of bound past event.now ≡ None)
-            × ShowsHistory bound self.now (event.now ∷ past) }
+            × ShowsTrace bound self.now (event.now ∷ past) }
         ensures bad { result ≡ false → (bound : ℕ) (past : List AnEvent) →
-            ShowsHistory bound self.now past →
+            ShowsTrace bound self.now past →
             is_access event.now ≡ true → IsSome (fault_of bound past event.now) }
     {
         match event {
@@ -341,11 +343,11 @@ impl<A: Allocator + Copy> Checker<A> {
         requires reads { shadow_of shadow.old ≡ self.now.shadow }
         ensures still_reads { shadow_of shadow.new ≡ self.now.shadow }
         ensures good { IsTrue result → (bound : ℕ) (past : List AnEvent) →
-            ShowsHistory bound self.now past →
+            ShowsTrace bound self.now past →
             (fault_of bound past event.now ≡ None)
-            × ShowsHistory bound self.now (event.now ∷ past) }
+            × ShowsTrace bound self.now (event.now ∷ past) }
         ensures bad { result ≡ false → (bound : ℕ) (past : List AnEvent) →
-            ShowsHistory bound self.now past →
+            ShowsTrace bound self.now past →
             is_access event.now ≡ true → IsSome (fault_of bound past event.now) }
     {
         match event {
@@ -361,7 +363,7 @@ impl<A: Allocator + Copy> Checker<A> {
     fn check(&mut self, event: &Event) -> Result<(), NoMemory>
         requires room { checked_of self.old + 1 < 2 ^ 64 }
         ensures ok { OnOk result ((bound : ℕ) (past : List AnEvent) → Stands bound self.old past →
-            ShowsHistory bound self.new (event.now ∷ past)
+            ShowsTrace bound self.new (event.now ∷ past)
             × (reports_of self.new
             ≡ reports_of self.old ++ option_to_list (verdict bound past event.now))) }
         ensures err { OnErr result (reports_of self.new ≡ reports_of self.old) }
@@ -390,12 +392,12 @@ impl<A: Allocator + Copy> Checker<A> {
     /// Applies an event to the blocks and to the shadow, and answers what is wrong with it.
     fn apply(&mut self, event: &Event) -> Result<Option<Fault>, NoMemory>
         ensures ok { IfOk result (λ fault. (bound : ℕ) (past : List AnEvent) →
-            ShowsHistory bound self.old past →
+            ShowsTrace bound self.old past →
             (fault ≡ fault_of bound past event.now)
-            × ShowsHistory bound self.new (event.now ∷ past)) }
+            × ShowsTrace bound self.new (event.now ∷ past)) }
         ensures spared { OnErr result (marks_none event.now ≡ false) }
         ensures good { OnErr result ((bound : ℕ) (past : List AnEvent) →
-            ShowsHistory bound self.old past → fault_of bound past event.now ≡ None) }
+            ShowsTrace bound self.old past → fault_of bound past event.now ≡ None) }
         ensures tally { KeepsTally self.old self.new }
     {
         match event {
@@ -409,6 +411,11 @@ impl<A: Allocator + Copy> Checker<A> {
             }
             Event::Unpoison(region) => {
                 self.shadow.unpoison(region.at(), region.size())?;
+                Ok(None)
+            }
+            Event::Anew => {
+                self.shadow.clear();
+                self.book.clear();
                 Ok(None)
             }
         }

@@ -53,25 +53,33 @@ module _ (one other : List Mark) (ok : AreMarks one) (also : AreMarks other) whe
       ∙ sym (deciding_shown other also at (lift (state_of one) (at / 8)) here)
 
   same_class : (at : ℕ) → lift (state_of one) (at / 8) ≡ lift (state_of other) (at / 8) →
-      lift (state_of one) (deciding_granule (state_of other) at)
-      ≡ lift (state_of other) (deciding_granule (state_of other) at)
+      class_of_code (lift (state_of one) (deciding_granule (state_of other) at))
+      ≡ class_of_code (lift (state_of other) (deciding_granule (state_of other) at))
       → class_of (state_of one) at ≡ class_of (state_of other) at
   same_class at here there =
       ap (λ granule. class_of_code (code_of (state_of one (8 * granule)))) (same_deciding at here)
       ∙ sym (class_shown (state_of one) (deciding_granule (state_of other) at))
-      ∙ ap class_of_code there
+      ∙ there
       ∙ class_shown (state_of other) (deciding_granule (state_of other) at)
+
+  -- of the granule that decides, only the class of its byte plays a part
+  pub found_alike : (is_store : Bool) (a : Access) → lift (state_of one) (a.at / 8) ≡ lift (state_of other) (a.at / 8) →
+      (IsSome (bad_byte_of (state_of other) a.at a.width)
+      → class_of_code (lift (state_of one) (deciding_granule (state_of other) a.at))
+      ≡ class_of_code (lift (state_of other) (deciding_granule (state_of other) a.at)))
+      → access_fault (state_of one) is_store a ≡ access_fault (state_of other) is_store a
+  found_alike is_store a here there =
+      ap (option_map (said is_store a (class_of (state_of one) a.at) (lift (state_of one) (a.at / 8))))
+      (same_bad a (ap front_of here))
+      ∙ by_bad is_store a _ _ _ _ (bad_byte_of (state_of other) a.at a.width) here
+      (λ bad. same_class a.at here (there bad))
 
   pub found_same : (is_store : Bool) (a : Access) → lift (state_of one) (a.at / 8) ≡ lift (state_of other) (a.at / 8) →
       (IsSome (bad_byte_of (state_of other) a.at a.width)
       → lift (state_of one) (deciding_granule (state_of other) a.at)
       ≡ lift (state_of other) (deciding_granule (state_of other) a.at))
       → access_fault (state_of one) is_store a ≡ access_fault (state_of other) is_store a
-  found_same is_store a here there =
-      ap (option_map (said is_store a (class_of (state_of one) a.at) (lift (state_of one) (a.at / 8))))
-      (same_bad a (ap front_of here))
-      ∙ by_bad is_store a _ _ _ _ (bad_byte_of (state_of other) a.at a.width) here
-      (λ bad. same_class a.at here (there bad))
+  found_same is_store a here there = found_alike is_store a here (λ bad. ap class_of_code (there bad))
 
   pub found_as_many : (is_store : Bool) (a : Access)
       → front_of (lift (state_of one) (a.at / 8)) ≡ front_of (lift (state_of other) (a.at / 8))

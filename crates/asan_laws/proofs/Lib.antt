@@ -7,18 +7,18 @@ mod Bytes
 mod Accesses
 mod Poisons
 mod Order
-mod Marks
-mod Thinned
-mod Alike
+pub mod Marks
+pub mod Thinned
+pub mod Alike
 mod Snapshots
-mod Finding
+pub mod Finding
 mod Said
-mod SameBlocks
-mod Reported
+pub mod SameBlocks
+pub mod Reported
 mod Numbers
 mod Beginning
 mod Faults
-mod RunBlocks
+pub mod RunBlocks
 mod RunBytes
 mod Quarantine
 mod HeldBlocks
@@ -26,9 +26,10 @@ mod LeanReported
 mod LeanNumbers
 mod LeanFaults
 mod Book
-mod Shown
+pub mod Shown
 mod RunShown
 mod StatedBlocks
 mod Known
 mod NewSegment
 mod Reasons
+pub mod Anew

@@ -1,7 +1,7 @@
 -- In a new segment each load, store, malloc and free can be recorded: what it looks at can be stated.
 use Rattle.std.proofs.Common.{◌≡◌, ℕ, zero, suc, ◌+◌, ◌-◌, ◌*◌, ◌/◌, ◌%◌, ◌^◌, ◌<◌, ◌≤◌, true, false, cond, leb, ltb}
 use Rattle.std.proofs.Common.{Bool, List, [], ◌∷◌, ◌++◌, length, refl, sym, ap, subst, ◌∙◌, arith, inl, inr}
-use Rattle.std.specs.Prelude.{min, not, filter, Contains, IsTrue}
+use Rattle.std.specs.Prelude.{◌||◌, min, not, filter, Contains, IsTrue}
 use Rattle.std.specs.List.{IsDistinct, list_any}
 use Rattle.std.proofs.lemmas.Bool.{cases_Bool, cases_lt, and_right, false≢true, eq-eqb}
 use Rattle.std.proofs.lemmas.Bool.Decides.{nat_tests}
@@ -32,8 +32,9 @@ use Rattle.asan_check.proofs.Frees as frees
 use Rattle.asan_check.proofs.Members.{in_none, in_head, cons_cases, passes_any, from_filtered}
 use Rattle.asan_check.proofs.Steps.{live_malloc, none_apart}
 use Rattle.asan_laws.specs.Laws.{access_event}
-use Rattle.asan_laws.specs.Recording.{Detail, shadow_bytes, FindAllBytes}
-use Rattle.asan_laws.specs.Snapshots.{lays_none, lays_live, lays_held, is_shade}
+use Rattle.asan_laws.specs.Recording.{Detail, shadow_bytes, FindAllBytes, is_of_block}
+use Rattle.asan_check.specs.Verdicts.{is_access}
+use Rattle.asan_laws.specs.Snapshots.{lays_none, lays_live, lays_held}
 use Rattle.asan_laws.specs.LeanRecording.{RecordsLeanly, begins, block, access, states_block, states, shadow_after}
 use Rattle.asan_laws.specs.LeanRecording.{lean_numbers, HaveSameStart, EachHeldFits}
 use Rattle.asan_laws.specs.Runs.{Step, Does, Releases, events_of, live_in, held_in, admits_in, marks_in, shadow_in}
@@ -543,17 +544,19 @@ module _ (bound : ℕ) (run : List Step) (fits : EachHeldFits bound run) (r : Re
         }
       ]
 
--- ---- any event but a poison and an unpoison
+-- ---- any load, store, malloc and free
 
 module _ (bound : ℕ) (run : List Step) (fits : EachHeldFits bound run) where
-  any_event : (e : Event) → is_shade e ≡ false → CanBeRecorded bound run e
+  any_event : (e : Event) → IsTrue (is_access e || is_of_block e) → CanBeRecorded bound run e
   any_event (event.Load a) is = any_access bound run fits false a
   any_event (event.Store a) is = any_access bound run fits true a
   any_event (event.Malloc r) is = any_malloc bound run fits r
   any_event (event.Free p) is = any_free bound run fits p
-  any_event e is = absurd (false≢true (sym is))
+  any_event (event.Poison s) is = absurd (false≢true is)
+  any_event (event.Unpoison r) is = absurd (false≢true is)
+  any_event event.Anew is = absurd (false≢true is)
 
-  pub can_be_recorded : (e : Event) → is_shade e ≡ false →
+  pub can_be_recorded : (e : Event) → IsTrue (is_access e || is_of_block e) →
       (stated : List Event) × (way : RecordsLeanly bound [] run (e ∷ stated) (Does e ∷ run))
       × FindAllBytes (lean_numbers way)
   can_be_recorded e is = let can = any_event e is in (can.stated, can.way, can.all)

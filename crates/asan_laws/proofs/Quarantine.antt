@@ -221,6 +221,7 @@ fault_is bound past (event.Free p) =
     ap (λ bs. free_by p.at bs (held_in run)) is.live_is ∙ ap (free_by p.at (live bound past)) is.held_is
 fault_is bound past (event.Poison s) = refl
 fault_is bound past (event.Unpoison r) = refl
+fault_is bound past event.Anew = refl
 
 verdict_is : (bound : ℕ) (past : List Event) (e : Event) →
     option_to_list (verdict_in (with_quarantine bound past) e)

@@ -5,3 +5,4 @@ pub mod Recording
 pub mod Runs
 pub mod LeanRecording
 pub mod Classes
+pub mod Traces

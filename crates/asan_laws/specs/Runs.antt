@@ -118,6 +118,7 @@ fault_in run (event.Free p) =
     else Some (fault.BadFree p.at))
 fault_in run (event.Poison s) = None
 fault_in run (event.Unpoison r) = None
+fault_in run event.Anew = None
 
 -- the verdict on an event after a run: a report with the event's number, or nothing. Numbers count
 -- events, and no releases.

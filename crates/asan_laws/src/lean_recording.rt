@@ -3,7 +3,7 @@
 //! function does nothing: its contract is the law.
 
 ghost use Rattle.std.specs.Prelude.{◌≡◌, ◌+◌, ◌<◌, ◌≤◌, ◌∷◌, ◌++◌, ℕ, List, [], IsTrue, false};
-ghost use Rattle.std.specs.Prelude.{Contains, IsPermutation, reverse, map, sum_by};
+ghost use Rattle.std.specs.Prelude.{◌||◌, Contains, IsPermutation, reverse, map, sum_by};
 ghost use Rattle.std.specs.List.{AllPairs, AllZip, list_any, flat_map};
 ghost use Rattle.trace_record.specs.declared.event.Event.{Event};
 ghost use Rattle.trace_record.specs.declared.event.Event.TheVariants as event;
@@ -115,7 +115,7 @@ pub fn lean_segments_have_the_faults_of_the_run()
 /// to put in after which it finds what it finds in the run. So a recorder never has to give up.
 pub fn each_event_can_be_recorded_in_a_new_segment()
     ensures { (bound : ℕ) (run : List Step) → EachHeldFits bound run →
-        (e : Event) → is_shade e ≡ false →
+        (e : Event) → IsTrue (is_access e || is_of_block e) →
         (stated : List Event)
         × (way : RecordsLeanly bound [] run (e ∷ stated) (Does e ∷ run))
         × FindAllBytes (lean_numbers way) }

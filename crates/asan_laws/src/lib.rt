@@ -7,6 +7,7 @@ mod laws;
 mod lean_recording;
 mod recording;
 mod runs;
+mod traces;
 
 pub use laws::{
     accesses_leave_no_trace, blocks_meet_where_spans_share_a_byte, each_event_has_its_verdict,
@@ -32,4 +33,8 @@ pub use recording::{
 pub use runs::{
     a_run_reports_what_comes_to_a_held_block, a_run_that_releases_nothing_forgets_no_block,
     a_run_with_one_quarantine_is_as_its_history, a_shadow_can_follow_a_run,
+};
+pub use traces::{
+    a_history_that_begins_anew_is_judged_by_itself, a_trace_has_the_faults_of_its_histories,
+    a_trace_of_one_history_is_that_history,
 };

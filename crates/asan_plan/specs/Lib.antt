@@ -1,7 +1,2 @@
-pub mod Spans
-pub mod Books
-pub mod Plans
-pub mod Accesses
-pub mod Frees
-pub mod Releases
-pub mod Recorders
+pub mod Saying
+pub mod Groups

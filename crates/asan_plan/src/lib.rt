@@ -1,18 +1,10 @@
-//! What a recorder has to state before a bad access, so that its recording shows there what the run
-//! has: decided by the book of its recording and by the shadow bytes that it sees.
-//!
-//! The **book** is what the checker of the recording knows: its live and its held blocks. In lean
-//! recording the process has others, so a block is stated when an access comes near it.
+//! What a recorder has to state before a bad access or a bad free, so that the collector finds
+//! there what the process has found: decided by the shadow bytes and the block that were found
+//! there, alone. Each such group of records is a history of its own.
 #![tactic(auto)]
 
-mod access;
-mod entry;
-mod free;
-mod granule;
 mod recording;
+mod saying;
 
-pub use access::{AccessPlan, plan_access};
-pub use entry::{Block, Entry};
-pub use free::{plan_free, release};
-pub use granule::{Around, Plan, Room, plan_granule};
-pub use recording::a_recording_by_plans_has_the_faults_of_the_run;
+pub use recording::a_recording_in_groups_has_the_reports_of_the_run;
+pub use saying::{Around, Said, Shading, Stated, say_access, say_free};

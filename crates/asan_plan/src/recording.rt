@@ -1,49 +1,24 @@
-//! What comes of a recording by plans. The function does nothing: its contract is the law.
+//! What comes of a recording in groups. The function does nothing: its contract is the law.
 
-ghost use Rattle.std.specs.Prelude.{◌≡◌, ◌++◌, ℕ, List, []};
+ghost use Rattle.std.specs.Prelude.{◌≡◌, ◌++◌, ℕ, List, map};
 ghost use Rattle.trace_record.specs.declared.event.Event.{Event};
-ghost use Rattle.asan_laws.specs.Thinning.{faults_of};
-ghost use Rattle.asan_laws.specs.Recording.{FindAllBytes};
+ghost use Rattle.asan_check.specs.declared.report.Fault.{Fault};
+ghost use Rattle.asan_check.specs.Traces as trace;
 ghost use Rattle.asan_laws.specs.Runs.{Step, faults_in};
-ghost use Rattle.asan_laws.specs.LeanRecording.{RecordsLeanly, lean_numbers};
-ghost use Rattle.asan_plan.specs.declared.entry.Entry.{Entry};
-ghost use Rattle.asan_plan.specs.Books.{IsBookOf};
-ghost use Rattle.asan_plan.specs.Releases.{PoisonStaysInRun};
-ghost use Rattle.asan_plan.specs.Recorders.{RecordsByPlan, AreOfProcess};
+ghost use Rattle.asan_plan.specs.Groups.{RecordsInGroups, group_numbers, HasReportsOfRun};
 
-use asan_laws::{
-    a_lean_recording_has_the_faults_of_the_run, a_poison_can_state_a_granule,
-    a_recorder_can_keep_the_book, a_recorder_can_keep_the_shadow, a_shadow_can_follow_a_run,
-};
-
-/// A recorder that begins with an empty book, writes what its plans say before each fault and makes
-/// the entries near each released block stale, has a lean recording of its run with the run's
-/// faults. The entries are its book. Each that is not stale is of a block that the process has, and
-/// poison stays: nothing about it has to be assumed.
-pub fn a_recording_by_plans_has_the_faults_of_the_run()
-    ensures lean { (bound : ℕ) (past : List Step) (recorded : List Event) (entries : List Entry)
-        (held_bytes : ℕ) (run : List Step) →
-        RecordsByPlan bound past recorded entries held_bytes run →
-        (way : RecordsLeanly bound [] past recorded run) × FindAllBytes (lean_numbers way) }
-    ensures faults { (bound : ℕ) (past : List Step) (recorded : List Event) (entries : List Entry)
-        (held_bytes : ℕ) (run : List Step) →
-        RecordsByPlan bound past recorded entries held_bytes run →
-        faults_in run ≡ faults_in past ++ faults_of bound recorded }
-    ensures book { (bound : ℕ) (past : List Step) (recorded : List Event) (entries : List Entry)
-        (held_bytes : ℕ) (run : List Step) →
-        RecordsByPlan bound past recorded entries held_bytes run →
-        IsBookOf bound recorded entries held_bytes }
-    ensures fresh { (bound : ℕ) (past : List Step) (recorded : List Event) (entries : List Entry)
-        (held_bytes : ℕ) (run : List Step) →
-        RecordsByPlan bound past recorded entries held_bytes run → AreOfProcess run entries }
-    ensures stays { (bound : ℕ) (past : List Step) (recorded : List Event) (entries : List Entry)
-        (held_bytes : ℕ) (run : List Step) →
-        RecordsByPlan bound past recorded entries held_bytes run →
-        PoisonStaysInRun bound recorded entries run }
-{
-    a_recorder_can_keep_the_book();
-    a_recorder_can_keep_the_shadow();
-    a_poison_can_state_a_granule();
-    a_shadow_can_follow_a_run();
-    a_lean_recording_has_the_faults_of_the_run();
-}
+/// A recorder that leaves out only what is good in the run, and records each other event after what
+/// states there what it finds in the run, in a history of its own or in one that has stated it
+/// already, has the run's reports: the same faults, in the same order, and each on the same event.
+pub fn a_recording_in_groups_has_the_reports_of_the_run()
+    ensures reports { (bound : ℕ) (before : List Event) (past : List Step)
+        (recorded : List Event) (run : List Step)
+        (way : RecordsInGroups bound before past recorded run) →
+        HasReportsOfRun bound (group_numbers way) before past recorded run }
+    ensures faults { (bound : ℕ) (before : List Event) (past : List Step)
+        (recorded : List Event) (run : List Step) →
+        RecordsInGroups bound before past recorded run → (added : List Fault)
+        × (map (λ r. r.fault) (trace.verdicts_of bound recorded)
+        ≡ map (λ r. r.fault) (trace.verdicts_of bound before) ++ added)
+        × (faults_in run ≡ faults_in past ++ added) }
+{}

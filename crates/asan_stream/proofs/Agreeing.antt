@@ -15,8 +15,8 @@ use Rattle.trace_record.proofs.Readings.{same_first}
 use Rattle.trace_record.proofs.Ends.{one_end, end_stands}
 use Rattle.trace_feed.specs.Feeds.{FeedState}
 use Rattle.asan_check.specs.declared.report.Report.{Report}
-use Rattle.asan_check.specs.Verdicts.{verdicts, verdicts_of}
-use Rattle.asan_check.proofs.Order.{verdicts_begin}
+use Rattle.asan_check.specs.Traces.{verdicts, verdicts_of}
+use Rattle.asan_check.proofs.Order.{trace_verdicts_begin}
 use Rattle.asan_stream.specs.declared.outcome.Outcome.{Outcome}
 use Rattle.asan_stream.specs.declared.outcome.Outcome.TheVariants as outcome
 use Rattle.asan_stream.specs.Agreement.{IsOutcomeOfBytes, NoReadFailed, end_of, is_settled}
@@ -91,7 +91,7 @@ first_spelled limit bytes before after other_before other_after events others en
 begins : (bound : ℕ) (events later : List Event)
     → (rest : List Report) × (verdicts bound (events ++ later) ≡ verdicts bound events ++ rest)
 begins bound events later =
-    let more = verdicts_begin bound (reverse later) (reverse events) in
+    let more = trace_verdicts_begin bound (reverse later) (reverse events) in
     (more.0, ap (verdicts_of bound) (reverse-append events later) ∙ more.1)
 
 module _ {F A : Type 0} where

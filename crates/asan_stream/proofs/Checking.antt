@@ -13,7 +13,7 @@ use Rattle.asan_check.specs.declared.checker.Checker.{Checker}
 use Rattle.asan_check.specs.declared.checker.Failed.{Failed}
 use Rattle.asan_check.specs.declared.report.Report.{Report}
 use Rattle.asan_check.specs.contracts.report.Report as report
-use Rattle.asan_check.specs.Verdicts.{verdict, verdicts}
+use Rattle.asan_check.specs.Traces.{verdict, verdicts}
 use Rattle.asan_check.specs.Standing.{Stands, StandsOrFailed, checked_of, reports_of, has_failed, bound_of}
 use Rattle.asan_stream.specs.declared.item.Item.{Item}
 use Rattle.asan_stream.specs.declared.item.Item.TheVariants as item

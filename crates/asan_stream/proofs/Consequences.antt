@@ -8,7 +8,7 @@ use Rattle.trace_record.specs.declared.end.Fate.{Fate}
 use Rattle.trace_record.specs.declared.end.Fate.TheVariants as fate
 use Rattle.trace_record.specs.Stream.{MayEnd, IsDecidedFate}
 use Rattle.trace_feed.specs.Feeds.{FeedState}
-use Rattle.asan_check.specs.Verdicts.{verdict, verdicts_of, verdicts}
+use Rattle.asan_check.specs.Traces.{verdict, verdicts_of, verdicts}
 use Rattle.asan_stream.specs.declared.options.Options.{Options}
 use Rattle.asan_stream.specs.declared.outcome.Outcome.{Outcome}
 use Rattle.asan_stream.specs.declared.outcome.Outcome.TheVariants as outcome

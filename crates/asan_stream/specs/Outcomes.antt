@@ -10,7 +10,7 @@ use Rattle.trace_feed.specs.Feeds.{FeedState}
 use Rattle.asan_check.specs.declared.report.Report.{Report}
 use Rattle.asan_check.specs.declared.ending.Ending.{Ending}
 use Rattle.asan_check.specs.declared.ending.Ending.TheVariants as ending
-use Rattle.asan_check.specs.Verdicts.{verdicts}
+use Rattle.asan_check.specs.Traces.{verdicts}
 use Rattle.asan_stream.specs.declared.options.Options.{Options}
 use Rattle.asan_stream.specs.declared.outcome.Outcome.{Outcome}
 use Rattle.asan_stream.specs.declared.outcome.Outcome.TheVariants as outcome

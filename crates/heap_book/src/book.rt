@@ -75,6 +75,15 @@ impl<A: Allocator + Copy> Book<A> {
         })
     }
 
+    /// Forgets all blocks, live ones and those in quarantine. The bound stays.
+    pub fn clear(&mut self)
+        ensures { (self.new.live ≡ []) × (self.new.queue ≡ []) × (self.new.bound ≡ self.old.bound) }
+    {
+        self.blocks.clear();
+        self.queue.clear();
+        self.queued = 0;
+    }
+
     /// Reads what the book keeps of blocks that are to be freed, by their addresses, and of as many
     /// of those in quarantine that were freed first, so that the processor has it at hand. The
     /// addresses may be any numbers. Of more than 16 it reads the first ones. Changes nothing.

@@ -77,6 +77,13 @@ impl<A: Allocator + Copy> LineMap<A> {
         }
     }
 
+    /// Removes all slots, and gives back their memory.
+    pub fn clear(&mut self)
+        ensures { self.new ≡ [] }
+    {
+        self.tree = Tree::empty(self.alloc);
+    }
+
     /// Reads what the map keeps of the lines of some addresses, so that the processor has it at
     /// hand if calls on these addresses follow. They may be any numbers. Of more than 32 it reads
     /// the first ones.

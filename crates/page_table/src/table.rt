@@ -65,6 +65,14 @@ impl<A: Allocator + Copy> PageTable<A> {
         }
     }
 
+    /// Sets all bytes to 0, and gives back the memory of what was kept.
+    #[tactic(auto, unfolding(crate::specs::Tables::byte_of))]
+    pub fn clear(&mut self)
+        ensures { (granule : ℕ) → byte_of self.new granule ≡ 0 }
+    {
+        self.root = Branch::same(self.alloc, 0);
+    }
+
     /// The byte of a granule: six array steps at most.
     #[inline]
     #[tactic(auto, unfolding(crate::specs::Tables::byte_of))]

@@ -3,14 +3,15 @@
 ghost use Rattle.std.specs.Prelude.{◌≤◌, length};
 
 mod version_2;
+mod version_3;
 
 use std::alloc::{AllocError, Global};
 use std::fmt::Debug;
 use std::process::Abort;
 use std::test::Fail;
 use trace_record::{
-    Access, Ahead, CLOSE, Decoder, End, Event, Fate, Flaw, HEADER, Out, Place, RECORD_ROOM, Region,
-    Shade, Step, Version, encode,
+    Access, Ahead, CLOSE, Decoder, End, Event, Fate, Flaw, HEADER, HEADER_2, HEADER_3, Out, Place,
+    RECORD_ROOM, Region, Shade, Step, Version, encode,
 };
 
 // What a macro writes is proved in each test that has it, so tests call these in place of std's
@@ -255,6 +256,15 @@ fn read_ahead(limit: u32, piece: &[u8]) -> Result<Ahead, Fail> {
     Ok(decoder.next_events(piece, &mut events))
 }
 
+/// The header of a version.
+fn header_of(version: Version) -> [u8; 8] {
+    match version {
+        Version::One => HEADER,
+        Version::Two => HEADER_2,
+        Version::Three => HEADER_3,
+    }
+}
+
 /// A stream of one record and the close, behind this header.
 fn stream_of(alloc: Global, header: &[u8; 8], record: &[u8]) -> Result<Vec<u8>, AllocError> {
     let mut text = Vec::new(alloc);
@@ -294,6 +304,15 @@ fn encoded(rt: &impl Abort, version: Version, event: &Event) -> ([u8; RECORD_ROO
 fn expect_record(rt: &impl Abort, version: Version, event: &Event, record: &[u8]) {
     let wanted = (room_with(record), record.len());
     expect_eq_at(rt, event, encoded(rt, version, event), wanted);
+}
+
+/// Asserts of events and versions whether the one spells in the other.
+fn expect_spells(rt: &impl Abort, cases: &[(Made, Version, bool)]) -> Result<(), Fail> {
+    for (made, version, want) in cases {
+        let event = (*made)?;
+        expect_eq_at(rt, (event, version), event.spells_in(*version), *want);
+    }
+    Ok(())
 }
 
 /// Asserts that a text has these events, and this end where a read fails after it.
@@ -464,12 +483,13 @@ fn reading_ahead_leaves_the_rest_for_next(rt: HostRuntime) -> Result<(), Fail> {
     Ok(())
 }
 
-/// Asserts that an event has this record in both versions, or in version 1 alone if it is a poison:
-/// the record of one is another in version 2.
+/// Asserts that an event has this record in each version, or in version 1 alone if it is a poison:
+/// the record of one is another from version 2 on.
 fn expect_record_in_each(rt: &impl Abort, event: Event, record: &[u8]) {
     expect_record(rt, Version::One, &event, record);
     if !matches!(event, Event::Poison(_)) {
         expect_record(rt, Version::Two, &event, record);
+        expect_record(rt, Version::Three, &event, record);
     }
 }
 

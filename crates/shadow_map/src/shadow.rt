@@ -48,6 +48,14 @@ impl<A: Allocator + Copy> Shadow<A> {
         }
     }
 
+    /// Makes every byte addressable, and gives back the memory of all marks.
+    #[tactic(auto, unfolding(crate::specs::Shows::value_at))]
+    pub fn clear(&mut self)
+        ensures { Shows self.new [] }
+    {
+        self.granules.clear();
+    }
+
     /// The shadow byte of a granule, and 0 for one at 2^44 or past it.
     #[inline]
     #[tactic(auto, unfolding(crate::specs::Shows::value_at))]

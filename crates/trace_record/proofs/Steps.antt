@@ -55,8 +55,9 @@ last_of n xs len = sym (take_all (n + 1) xs (omega arith)) ∙ take_more xs n 0 
 abbrev WithoutLast : Version → List ℕ → Type 0
 WithoutLast v bytes = (before : List ℕ) × (byte : ℕ) × (bytes ≡ before ++ byte ∷ []) × IsUnfinished v before
 
-without_last : (v : Version) (code : ℕ) (x : Numbers) (f : Flaw) → length (record_bytes code x) ≡ record_length v code
-    → flaw_of v x ≡ Some f → WithoutLast v (record_bytes code x)
+without_last : (v : Version) (code : ℕ) (x : Numbers) (f : Flaw)
+    → length (record_bytes code x) ≡ record_length v code → flaw_of v x ≡ Some f
+    → WithoutLast v (record_bytes code x)
 without_last v code (numbers.Access width at) f long first = let bytes = record_bytes code (numbers.Access width at) in
     (take 9 bytes, get_or bytes 9 0, refl, omega arith)
 without_last v code (numbers.Region at size) f long first = let bytes = record_bytes code (numbers.Region at size) in

@@ -1,6 +1,7 @@
 -- How events are spelled in bytes, and what a whole record says (the record layout is this
 -- project's choice, profile). The versions differ in the header, in the record of a poison, which
--- has a kind from version 2 on, and in that of a history that begins anew, which version 3 has alone.
+-- has a kind from version 2 on, and in that of a history that begins anew, which version 3 alone
+-- has.
 use Rattle.std.specs.Prelude.{◌≡◌, ℕ, ◌^◌, ◌<◌, nat_le, ◌==◌, ◌||◌, ◌&&◌, if◌then◌else◌}
 use Rattle.std.specs.Prelude.{Bool, true, false, IsTrue}
 use Rattle.std.specs.Prelude.{List, [], ◌∷◌, ◌++◌, length, All, Option, None}

@@ -8,8 +8,8 @@ ghost use Rattle.trace_record.specs.Spelling.{spelling, spells_in};
 
 use crate::event::{Access, Event, Place};
 use crate::format::{
-    ACCESS_LENGTH, ANEW, ANEW_LENGTH, FREE, LOAD, MALLOC, PLACE_LENGTH, POISON, RECORD_ROOM, REGION_LENGTH,
-    SHADE_LENGTH, STORE, UNPOISON,
+    ACCESS_LENGTH, ANEW, ANEW_LENGTH, FREE, LOAD, MALLOC, PLACE_LENGTH, POISON, RECORD_ROOM,
+    REGION_LENGTH, SHADE_LENGTH, STORE, UNPOISON,
 };
 use crate::shade::Shade;
 use crate::version::Version;

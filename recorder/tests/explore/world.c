@@ -730,11 +730,11 @@ static uint64_t number_at(const unsigned char *at)
 
 static void look_at_record(struct view *view, const unsigned char *at, unsigned segment)
 {
-    bool is_access = *at == CODE_LOAD || *at == CODE_STORE;
     if (*at == CODE_ANEW) {
         memset(view, 0, sizeof *view);
         return;
     }
+    bool is_access = *at == CODE_LOAD || *at == CODE_STORE;
     uint64_t address = number_at(at + (is_access || *at == CODE_POISON ? 2 : 1));
     if (address == 0)
         return; /* it says nothing */
@@ -786,19 +786,24 @@ static void look_at_segment(unsigned segment)
         explore_fail("segment %u has %u events", segment, events);
 }
 
+static void list_record(const unsigned char *at)
+{
+    static const char *const names[] = {"none", "load", "store", "malloc", "free", "poison", "unpoison"};
+    if (*at == CODE_ANEW) {
+        printf(" anew");
+        return;
+    }
+    unsigned offset = record_length(*at) == ACCESS_LENGTH || *at == CODE_POISON ? 2 : 1;
+    printf(" %s %llx", names[*at], (unsigned long long)number_at(at + offset));
+}
+
 static void list_segment(unsigned segment)
 {
-    static const char *const names[] = {"none",   "load",     "store", "malloc", "free",
-                                        "poison", "unpoison", "close", "anew"};
     const struct file *file = &world.files[segment];
     size_t end = file->length <= FILE_ROOM ? end_of(file) : 0;
     printf("  segment %u%s:", segment, is_closed(file) ? "" : " without a close");
-    for (size_t at = HEADER_LENGTH; at < end; at += record_length(file->bytes[at])) {
-        unsigned offset = record_length(file->bytes[at]) == ACCESS_LENGTH || file->bytes[at] == CODE_POISON ? 2 : 1;
-        bool is_anew = file->bytes[at] == CODE_ANEW;
-        printf(" %s %llx", names[file->bytes[at]],
-               is_anew ? 0ULL : (unsigned long long)number_at(file->bytes + at + offset));
-    }
+    for (size_t at = HEADER_LENGTH; at < end; at += record_length(file->bytes[at]))
+        list_record(file->bytes + at);
     printf("\n");
 }
 

@@ -41,6 +41,9 @@ fn drawn_size(draws: &mut Draws) -> u64 {
 /// An event in the window from an address on, or a flaw where it would reach past the last
 /// address, or is too large.
 fn drawn_event(draws: &mut Draws, base: u64) -> Result<Event, Flaw> {
+    if draws.below(32) == 0 {
+        return Ok(Event::Anew);
+    }
     let at = base.saturating_add(draws.below(WINDOW));
     let size = drawn_size(draws);
     let width = 1 << draws.below(4);

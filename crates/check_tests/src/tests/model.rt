@@ -1,5 +1,5 @@
-//! The rules of the six events, plain and slow: the list of events is kept, and each answer is
-//! worked out anew from it.
+//! The rules of the seven events, plain and slow: the list of events is kept, and each answer is
+//! worked out from those that came since the last `Anew`.
 use asan_check::{Class, Fault, NoMemory, Report};
 use std::alloc::Global;
 use trace_record::{Access, Event, Kind};
@@ -112,6 +112,17 @@ fn first_free(past: &[Event], block: &Block) -> Option<usize> {
     None
 }
 
+/// The events after the last `Anew`.
+fn since_anew(events: &[Event]) -> &[Event] {
+    let mut since = events;
+    for (place, event) in events.iter().enumerate() {
+        if matches!(event, Event::Anew) {
+            since = events.get(place.saturating_add(1)..).unwrap_or_default();
+        }
+    }
+    since
+}
+
 impl Model {
     /// Of the admitted blocks, those that were live after some events.
     fn live(&self, past: &[Event], admitted: &[Block]) -> Result<Vec<Block>, NoMemory> {
@@ -168,17 +179,18 @@ impl Model {
         )
     }
 
-    /// The blocks that were admitted, oldest first.
-    fn admitted(&self) -> Result<Vec<Block>, NoMemory> {
+    /// The blocks that were admitted in some events, oldest first.
+    fn admitted(&self, past: &[Event]) -> Result<Vec<Block>, NoMemory> {
         let mut admitted = Vec::new(self.alloc);
-        for (place, event) in self.events.iter().enumerate() {
+        for (place, event) in past.iter().enumerate() {
             if let Event::Malloc(region) = event {
                 let block = Block {
                     at: region.at(),
                     size: region.size(),
                     place,
                 };
-                if self.admits(&self.events[..place], &admitted, &block)? {
+                let before = past.get(..place).unwrap_or_default();
+                if self.admits(before, &admitted, &block)? {
                     admitted.push(block)?;
                 }
             }
@@ -188,11 +200,12 @@ impl Model {
 
     /// The marks of the events, oldest first.
     pub fn marks(&self) -> Result<Vec<Mark>, NoMemory> {
-        let admitted = self.admitted()?;
+        let past = since_anew(&self.events);
+        let admitted = self.admitted(past)?;
         let mut marks = Vec::new(self.alloc);
-        for (place, event) in self.events.iter().enumerate() {
+        for (place, event) in past.iter().enumerate() {
             match event {
-                Event::Load(_) | Event::Store(_) => {}
+                Event::Load(_) | Event::Store(_) | Event::Anew => {}
                 Event::Malloc(region) => {
                     if admitted.iter().any(|block| block.place == place) {
                         marks.push(Mark::Block {
@@ -201,7 +214,9 @@ impl Model {
                         })?;
                     }
                 }
-                Event::Free(free) => self.mark_free(place, free.at(), &admitted, &mut marks)?,
+                Event::Free(free) => {
+                    self.mark_free(past, place, free.at(), &admitted, &mut marks)?
+                }
                 Event::Poison(shade) => marks.push(Mark::Poison {
                     at: shade.at(),
                     end: shade.at().saturating_add(shade.size()),
@@ -220,17 +235,18 @@ impl Model {
         Ok(marks)
     }
 
-    /// The marks of a free: the freed bytes, and then the span of each block that is no longer
-    /// held.
+    /// The marks of the free at a place of some events: the freed bytes, and then the span of each
+    /// block that is no longer held.
     fn mark_free(
         &self,
+        past: &[Event],
         place: usize,
         at: u64,
         admitted: &[Block],
         marks: &mut Vec<Mark>,
     ) -> Result<(), NoMemory> {
-        let before = self.events.get(..place).unwrap_or_default();
-        let after = self.events.get(..=place).unwrap_or_default();
+        let before = past.get(..place).unwrap_or_default();
+        let after = past.get(..=place).unwrap_or_default();
         let live = self.live(before, admitted)?;
         let Some(freed) = live.iter().find(|block| block.at == at) else {
             return Ok(());
@@ -250,32 +266,33 @@ impl Model {
 
     /// What is wrong with an event after those so far.
     fn fault(&self, event: &Event) -> Result<Option<Fault>, NoMemory> {
+        let past = since_anew(&self.events);
         match event {
             Event::Load(access) => Ok(access_fault(&self.marks()?, false, access)),
             Event::Store(access) => Ok(access_fault(&self.marks()?, true, access)),
             Event::Malloc(region) => {
                 let (at, size) = (region.at(), region.size());
-                let place = self.events.len();
+                let place = past.len();
                 let block = Block { at, size, place };
-                if at == 0 || self.admits(&self.events, &self.admitted()?, &block)? {
+                if at == 0 || self.admits(past, &self.admitted(past)?, &block)? {
                     return Ok(None);
                 }
                 Ok(Some(Fault::BadMalloc { at, size }))
             }
             Event::Free(free) => {
                 let at = free.at();
-                let admitted = self.admitted()?;
-                let live = self.live(&self.events, &admitted)?;
+                let admitted = self.admitted(past)?;
+                let live = self.live(past, &admitted)?;
                 if at == 0 || live.iter().any(|block| block.at == at) {
                     return Ok(None);
                 }
-                let held = self.held(&self.events, &admitted)?;
+                let held = self.held(past, &admitted)?;
                 if held.iter().any(|block| block.at == at) {
                     return Ok(Some(Fault::DoubleFree { at }));
                 }
                 Ok(Some(Fault::BadFree { at }))
             }
-            Event::Poison(_) | Event::Unpoison(_) => Ok(None),
+            Event::Poison(_) | Event::Unpoison(_) | Event::Anew => Ok(None),
         }
     }
 

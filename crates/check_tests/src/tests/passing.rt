@@ -36,12 +36,13 @@ fn good_accesses_are_passed(rt: HostRuntime) -> Result<(), Fail> {
         free(0x3000),
         poison(0x1000, 8),
         unpoison(0x1000, 8),
+        Ok(Event::Anew),
     ] {
         expect_two_passed(&rt, &mut checker, other)?;
     }
     expect_eq(&rt, pass(&rt, &mut checker, &good_accesses()?), 2);
     expect_eq(&rt, pass(&rt, &mut checker, &[]), 0);
-    expect_eq(&rt, tally(&checker), (17, 0));
+    expect_eq(&rt, tally(&checker), (19, 0));
     Ok(())
 }
 

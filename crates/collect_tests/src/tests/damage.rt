@@ -3,6 +3,7 @@
 
 use super::collect::{expect_same, outcomes_of};
 use super::reading::end_of;
+use super::versions::FORGOTTEN;
 use super::{Senders, expect_eq, expect_eq_at, outcome_of_feed};
 use asan_check::Ending;
 use asan_collect::{OpenGate, Options, Outcome};
@@ -117,6 +118,11 @@ fn each_prefix_of_version_2_has_one_outcome(rt: HostRuntime) -> Result<(), Fail>
     expect_of_each_prefix(&rt, rt.alloc(), &POISON)
 }
 
+#[test]
+fn each_prefix_of_version_3_has_one_outcome(rt: HostRuntime) -> Result<(), Fail> {
+    expect_of_each_prefix(&rt, rt.alloc(), &FORGOTTEN)
+}
+
 /// A stream with the byte at one place set to each of its 255 other values.
 fn damaged(alloc: Global, sound: &[u8], place: usize) -> Result<Vec<Vec<u8>>, AllocError> {
     let mut streams = Vec::new(alloc);
@@ -150,7 +156,8 @@ fn expect_of_each_damaged<R: Threads + Wait + Clock + Sync + Abort>(
     Ok(())
 }
 
-// A test may take a minute, so each stream has two.
+// A test may take a minute, so each stream has two, and that of version 3, which begins like the
+// first, has the second.
 
 /// Where the first event ends.
 const HALF: usize = 25;
@@ -173,4 +180,9 @@ fn damage_of_version_2_up_to_the_first_event(rt: HostRuntime) -> Result<(), Fail
 #[test]
 fn damage_of_version_2_after_the_first_event(rt: HostRuntime) -> Result<(), Fail> {
     expect_of_each_damaged(&rt, rt.alloc(), &POISON, HALF, POISON.len())
+}
+
+#[test]
+fn damage_of_version_3_after_the_first_event(rt: HostRuntime) -> Result<(), Fail> {
+    expect_of_each_damaged(&rt, rt.alloc(), &FORGOTTEN, HALF, FORGOTTEN.len())
 }

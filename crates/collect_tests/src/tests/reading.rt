@@ -10,13 +10,16 @@ const HEADER_1: [u8; 8] = [0x41, 0x53, 0x54, 0x52, 0x01, 0x00, 0x00, 0x00];
 /// The header of version 2.
 const HEADER_2: [u8; 8] = [0x41, 0x53, 0x54, 0x52, 0x02, 0x00, 0x00, 0x00];
 
+/// The header of version 3.
+const HEADER_3: [u8; 8] = [0x41, 0x53, 0x54, 0x52, 0x03, 0x00, 0x00, 0x00];
+
 /// The end of each address.
 const PAST_ADDRESSES: u128 = 1 << 47;
 
 /// The greatest size of a region in version 1.
 const MAX_SIZE_1: u128 = 268_435_456;
 
-/// The greatest size of a region in version 2.
+/// The greatest size of a region from version 2 on.
 const MAX_SIZE_2: u128 = 4_294_967_296;
 
 /// The greatest kind of a poison.
@@ -28,6 +31,8 @@ fn version_of(text: &[u8]) -> Option<u8> {
         Some(1)
     } else if text.starts_with(&HEADER_2) {
         Some(2)
+    } else if text.starts_with(&HEADER_3) {
+        Some(3)
     } else {
         None
     }
@@ -41,6 +46,7 @@ fn length_of(version: u8, code: u8) -> Option<usize> {
         0x04 => Some(9),
         0x05 if version == 1 => Some(17),
         0x05 => Some(18),
+        0x08 if version == 3 => Some(1),
         _ => None,
     }
 }
@@ -85,8 +91,9 @@ fn flaw_of(version: u8, code: u8, record: &[u8]) -> Option<Flaw> {
         }
         0x04 if number(record, 1, 9) >= PAST_ADDRESSES => Some(Flaw::Range),
         0x04 => None,
-        0x05 if version == 2 && number(record, 1, 2) > MAX_KIND => Some(Flaw::Kind),
-        0x05 if version == 2 => region_flaw(version, record, 2),
+        0x05 if version != 1 && number(record, 1, 2) > MAX_KIND => Some(Flaw::Kind),
+        0x05 if version != 1 => region_flaw(version, record, 2),
+        0x08 => None,
         _ => region_flaw(version, record, 1),
     }
 }

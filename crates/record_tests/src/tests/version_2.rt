@@ -1,10 +1,10 @@
-//! Tests of version 2: poison with a kind, larger regions, what a header says, and what both
-//! versions share.
+//! Tests of version 2: poison with a kind, larger regions, what a header says, and what all
+//! versions share. Version 3 has the same of these.
 
 use super::{
     LOADS, Made, STREAM, an_end, encoded, end_in, end_of, end_of_fault, events_of, expect_at,
-    expect_by_bytes, expect_cut_anywhere, expect_eq, expect_eq_at, expect_record, load, malloc,
-    new_decoder, next, poison, store, unpoison,
+    expect_by_bytes, expect_cut_anywhere, expect_eq, expect_eq_at, expect_record, expect_spells,
+    header_of, load, malloc, new_decoder, next, poison, store, unpoison,
 };
 use std::alloc::Global;
 use std::process::Abort;
@@ -26,14 +26,6 @@ const HALF_A_GRANULE: [u8; 37] = [
     0x41, 0x53, 0x54, 0x52, 2, 0, 0, 0, 5, 1, 4, 0x10, 0, 0, 0, 0, 0, 0, 12, 0, 0, 0, 0, 0, 0, 0,
     1, 8, 0, 0x10, 0, 0, 0, 0, 0, 0, 7,
 ];
-
-/// The header of a version.
-fn header_of(version: Version) -> [u8; 8] {
-    match version {
-        Version::One => HEADER,
-        Version::Two => HEADER_2,
-    }
-}
 
 /// What is read ahead of the records of a stream of version 2, where eight events have room, and
 /// the events.
@@ -99,7 +91,7 @@ fn each_prefix_of_a_poison(rt: HostRuntime) -> Result<(), Fail> {
     Ok(())
 }
 
-/// A record with a region in a version. A poison of version 2 is a global's.
+/// A record with a region in a version. A poison with a kind is a global's.
 fn region_record(
     alloc: Global,
     version: Version,
@@ -109,7 +101,7 @@ fn region_record(
 ) -> Result<Vec<u8>, Fail> {
     let mut record = Vec::new(alloc);
     record.push(code)?;
-    if code == 5 && version == Version::Two {
+    if code == 5 && version != Version::One {
         record.push(2)?;
     }
     record.extend_from_slice(&at.to_le_bytes())?;
@@ -119,7 +111,7 @@ fn region_record(
 
 /// A version, the size of a region, where the last region of this size starts, and what becomes of
 /// a region of this size.
-const MAX_REGIONS: [(Version, u64, u64, Fate); 5] = [
+const MAX_REGIONS: [(Version, u64, u64, Fate); 7] = [
     (Version::One, 0x1000_0000, 0x7fff_f000_0000, Fate::Closed),
     (
         Version::One,
@@ -131,6 +123,18 @@ const MAX_REGIONS: [(Version, u64, u64, Fate); 5] = [
     (Version::Two, 0x1_0000_0000, 0x7fff_0000_0000, Fate::Closed),
     (
         Version::Two,
+        0x1_0000_0001,
+        0x7ffe_ffff_ffff,
+        Fate::Malformed(Flaw::Size),
+    ),
+    (
+        Version::Three,
+        0x1_0000_0000,
+        0x7fff_0000_0000,
+        Fate::Closed,
+    ),
+    (
+        Version::Three,
         0x1_0000_0001,
         0x7ffe_ffff_ffff,
         Fate::Malformed(Flaw::Size),
@@ -176,16 +180,7 @@ fn largest_region_of_each_version(rt: HostRuntime) -> Result<(), Fail> {
     Ok(())
 }
 
-/// Asserts of events and versions whether the one spells in the other.
-fn expect_spells(rt: &impl Abort, cases: &[(Made, Version, bool)]) -> Result<(), Fail> {
-    for (made, version, want) in cases {
-        let event = (*made)?;
-        expect_eq_at(rt, (event, version), event.spells_in(*version), *want);
-    }
-    Ok(())
-}
-
-/// Asserts that regions of a size spell in version 2, and whether they do in version 1.
+/// Asserts that regions of a size spell from version 2 on, and whether they do in version 1.
 fn expect_larger(rt: &impl Abort, size: u64, in_version_1: bool) -> Result<(), Fail> {
     for made in [
         malloc(0x1000, size),
@@ -195,6 +190,7 @@ fn expect_larger(rt: &impl Abort, size: u64, in_version_1: bool) -> Result<(), F
         let cases = [
             (made, Version::One, in_version_1),
             (made, Version::Two, true),
+            (made, Version::Three, true),
         ];
         expect_spells(rt, &cases)?;
     }
@@ -202,13 +198,14 @@ fn expect_larger(rt: &impl Abort, size: u64, in_version_1: bool) -> Result<(), F
 }
 
 #[test]
-fn larger_regions_spell_in_version_2_alone(rt: HostRuntime) -> Result<(), Fail> {
+fn larger_regions_do_not_spell_in_version_1(rt: HostRuntime) -> Result<(), Fail> {
     for (size, in_version_1) in [(1 << 28, true), ((1 << 28) + 1, false), (1 << 32, false)] {
         expect_larger(&rt, size, in_version_1)?;
     }
     let malloc = malloc(0x1000, 1 << 32)?;
     let record = [3, 0, 0x10, 0, 0, 0, 0, 0, 0, 0, 0, 0, 0, 1, 0, 0, 0];
     expect_record(&rt, Version::Two, &malloc, &record);
+    expect_record(&rt, Version::Three, &malloc, &record);
     Ok(())
 }
 
@@ -283,7 +280,7 @@ fn each_version(rt: HostRuntime) -> Result<(), Fail> {
         let mut header = HEADER;
         header[4] = version;
         let want = match version {
-            1 | 2 => an_end(Fate::Closed, 3, 39),
+            1..=3 => an_end(Fate::Closed, 3, 39),
             _ => refused,
         };
         let end = end_behind(&rt, rt.alloc(), &header)?;
@@ -297,22 +294,28 @@ fn each_version(rt: HostRuntime) -> Result<(), Fail> {
     Ok(())
 }
 
-/// Records without poison mean the same in both versions.
-#[test]
-fn other_records_are_those_of_version_1(rt: HostRuntime) -> Result<(), Fail> {
+/// Asserts that the stream has the same events and the same end in a version.
+fn expect_same_in(rt: &impl Abort, alloc: Global, version: u8) -> Result<(), Fail> {
     let mut text = STREAM;
-    text[4] = 2;
+    text[4] = version;
     for cut in 0..=STREAM.len() {
-        let events = events_of(rt.alloc(), &STREAM, cut)?;
-        let others = events_of(rt.alloc(), &text, cut)?;
-        expect_at(&rt, cut, events == others);
+        let events = events_of(alloc, &STREAM, cut)?;
+        let others = events_of(alloc, &text, cut)?;
+        expect_at(rt, cut, events == others);
     }
     for cut in 0..=STREAM.len() {
-        let first = end_of(&rt, rt.alloc(), 1 << 24, &STREAM, cut)?;
-        let second = end_of(&rt, rt.alloc(), 1 << 24, &text, cut)?;
-        expect_eq_at(&rt, cut, first, second);
+        let first = end_of(rt, alloc, 1 << 24, &STREAM, cut)?;
+        let second = end_of(rt, alloc, 1 << 24, &text, cut)?;
+        expect_eq_at(rt, cut, first, second);
     }
     Ok(())
+}
+
+/// Records without poison mean the same in each version.
+#[test]
+fn other_records_are_those_of_version_1(rt: HostRuntime) -> Result<(), Fail> {
+    expect_same_in(&rt, rt.alloc(), 2)?;
+    expect_same_in(&rt, rt.alloc(), 3)
 }
 
 /// A malloc of 8 bytes at 0x1000, a poison of 6 bytes at 0x1002 and a load of a byte at 0x1003,
@@ -363,7 +366,7 @@ fn expect_in_two(
     Ok(())
 }
 
-/// The record of a poison, cut at each of its bytes, is read in both versions.
+/// The record of a poison, cut at each of its bytes, is read in each version.
 #[test]
 fn poison_cut_at_each_byte(rt: HostRuntime) -> Result<(), Fail> {
     for (version, made) in [
@@ -372,6 +375,7 @@ fn poison_cut_at_each_byte(rt: HostRuntime) -> Result<(), Fail> {
         (Version::Two, poison(1, 0x1_0203_0405, 0xa0b_0c0d)),
         (Version::Two, poison(2, 0x1_0203_0405, 0xa0b_0c0d)),
         (Version::Two, poison(2, 0x1_0203_0405, 1 << 32)),
+        (Version::Three, poison(2, 0x1_0203_0405, 1 << 32)),
     ] {
         let event = made?;
         let (record, length) = encoded(&rt, version, &event);
@@ -394,6 +398,7 @@ fn poison_is_spelled_by_version(rt: HostRuntime) -> Result<(), Fail> {
         (user, Version::Two, true),
         (stack, Version::One, false),
         (stack, Version::Two, true),
+        (stack, Version::Three, true),
         (global, Version::One, false),
         (global, Version::Two, true),
         (unpoison, Version::One, true),
@@ -415,7 +420,9 @@ fn poison_is_spelled_by_version(rt: HostRuntime) -> Result<(), Fail> {
         ),
     ];
     for (event, record) in records {
-        expect_record(&rt, Version::Two, &event?, &record);
+        let event = event?;
+        expect_record(&rt, Version::Two, &event, &record);
+        expect_record(&rt, Version::Three, &event, &record);
     }
     Ok(())
 }

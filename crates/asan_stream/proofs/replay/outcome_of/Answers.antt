@@ -1,6 +1,6 @@
 use Rattle.std.proofs.Common.{◌<◌, length, take, refl, sym, ap, ◌∙◌, arith}
 use Rattle.asan_check.specs.Standing.{checked_of}
-use Rattle.asan_check.specs.Verdicts.{verdicts}
+use Rattle.asan_check.specs.Traces.{verdicts}
 use Rattle.asan_stream.proofs.Checking.{whole_stream, first_of_stream}
 use Rattle.asan_stream.proofs.replay.outcome_of.Goals as goal
 
