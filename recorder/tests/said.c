@@ -1,7 +1,8 @@
 /* The statements before a bad access (stream/saying.c), and a collector of some lines: in a history that begins
    there, it has as many addressable bytes in the granule of the access as the shadow, and says the same class. Each
    shadow byte of the granule and of the next one, with no block, and with each live or freed one of some sizes near it:
-   so notes may say anything. A block that has left the byte that says the class is the one that is stated.
+   so notes may say anything. A block that has left the byte that says the class is the one that is stated. With PROVED
+   the statements are also those of crates/asan_plan, before frees too, and for drawn ones.
    Prints how many were compared, and the first that are wrong; the status is 1 if one is. */
 #include <stdbool.h>
 #include <stdint.h>
@@ -73,6 +74,8 @@ static bool apply(const struct statement *event, const struct statement *before)
 /* The collector's byte for one of the recorder's. */
 static unsigned char code_of(unsigned char shade, bool is_of_heap)
 {
+    if (addressable_of(shade) != 0)
+        return shade;
     if (is_of_heap && (shade == SHADE_HEAP || shade == SHADE_FREED))
         return shade;
     if (is_of_heap)
@@ -111,6 +114,107 @@ static const char *judge(const struct found *found, const struct statement *stat
     return NULL;
 }
 
+static void count_one(const struct found *found, const char *what)
+{
+    compared++;
+    if (what == NULL || wrong++ >= 10)
+        return;
+    const char *block = found->has_block ? found->is_held ? "freed" : "live" : "missing";
+    printf("%s of %02x, %02x%s at %#jx, with a %s block of %u bytes at %#jx\n", what, found->shade, found->next,
+           found->is_of_heap ? " of the heap" : "", (uintmax_t)found->granule, block, found->size,
+           (uintmax_t)found->start);
+}
+
+/* ---- the proved statements */
+
+#ifdef PROVED
+
+struct asked {
+    uint64_t granule, at, size; /* its number; and a block */
+    uint8_t here, next, block;  /* 0: there is none; 1: it is live; 2: it is held */
+};
+struct proved {
+    uint64_t address, size;
+    uint8_t code, kind;
+};
+/* How many there are; more than the most: it was asked in a way that says nothing. */
+uint32_t asan_plan_access(const struct asked *asked, struct proved *statements, size_t count);
+uint32_t asan_plan_free(const struct asked *asked, struct proved *statements, size_t count);
+
+static struct asked asked_of(const struct found *found)
+{
+    return (struct asked){.granule = found->granule / GRANULE,
+                          .at = found->start,
+                          .size = found->size,
+                          .here = code_of(found->shade, found->is_of_heap),
+                          .next = code_of(found->next, found->is_of_heap),
+                          .block = !found->has_block ? 0
+                                   : found->is_held  ? 2
+                                                     : 1};
+}
+
+static bool are_proved(const struct statement *stated, unsigned count, const struct proved *proved, uint32_t wanted)
+{
+    bool are = count == wanted && count <= MOST_STATEMENTS;
+    for (unsigned i = 0; are && i < count; i++)
+        are = stated[i].code == proved[i].code && stated[i].address == proved[i].address
+              && stated[i].size == proved[i].size && (unsigned)stated[i].kind == proved[i].kind;
+    return are;
+}
+
+static void compare_with_proved(const struct found *found)
+{
+    struct statement stated[MOST_STATEMENTS];
+    struct proved proved[MOST_STATEMENTS];
+    struct asked asked = asked_of(found);
+    unsigned count = say_access(found, stated);
+    uint32_t wanted = asan_plan_access(&asked, proved, MOST_STATEMENTS);
+    count_one(found, are_proved(stated, count, proved, wanted) ? NULL : "other statements than proved");
+    count = say_free(found, stated);
+    wanted = asan_plan_free(&asked, proved, MOST_STATEMENTS);
+    count_one(found, are_proved(stated, count, proved, wanted) ? NULL : "other statements than proved before a free");
+}
+
+static uint64_t draw(uint64_t below)
+{
+    static uint64_t state = 88172645463325252;
+    state ^= state << 13, state ^= state >> 7, state ^= state << 17;
+    return state % below;
+}
+
+/* A granule anywhere, and a block that begins or ends near it. */
+static void compare_drawn(void)
+{
+    enum { ROUNDS = 1000000, NEAR = 16 };
+    static const unsigned char usual[] = {SHADE_HEAP, SHADE_FREED, SHADE_USER, 0, 5};
+    for (unsigned round = 0; round < ROUNDS; round++) {
+        struct found found = {.is_of_heap = draw(4) != 0, .has_block = draw(8) != 0, .is_held = draw(2) != 0};
+        found.size = (uint32_t)draw((uint64_t)1 << draw(33));
+        found.granule = MAX_REGION_SIZE + draw(ADDRESS_END / GRANULE / 2) * GRANULE;
+        found.start = found.granule + (NEAR - draw(2 * NEAR)) * GRANULE;
+        if (draw(2) != 0)
+            found.start -= found.size / GRANULE * GRANULE;
+        found.shade = draw(2) != 0 ? (unsigned char)(1 + draw(GRANULE - 1)) : usual[draw(3)];
+        found.next = draw(4) != 0 ? usual[draw(sizeof usual)] : (unsigned char)(0x80 + draw(0x80));
+        compare_with_proved(&found);
+    }
+}
+
+#else
+
+static void compare_with_proved(const struct found *found)
+{
+    (void)found;
+}
+
+static void compare_drawn(void)
+{
+}
+
+#endif
+
+/* ---- small memory */
+
 static void compare(const struct found *found)
 {
     struct statement stated[MOST_STATEMENTS];
@@ -120,13 +224,8 @@ static void compare(const struct found *found)
     for (unsigned i = 0; i < count && i < MOST_STATEMENTS; i++)
         if (!apply(&stated[i], i == 0 ? NULL : &stated[i - 1]))
             what = "the statement";
-    if (what == NULL)
-        what = judge(found, stated, count);
-    compared++;
-    if (what != NULL && wrong++ < 10)
-        printf("%s of %02x, %02x%s, with a %s block of %u bytes at %+d\n", what, found->shade, found->next,
-               found->is_of_heap ? " of the heap" : "",
-               found->has_block ? found->is_held ? "freed" : "live" : "missing", found->size, (int)found->start - HERE);
+    count_one(found, what != NULL ? what : judge(found, stated, count));
+    compare_with_proved(found);
 }
 
 static void compare_blocks(struct found found)
@@ -153,6 +252,7 @@ int main(void)
             found.is_of_heap = true;
             compare_blocks(found);
         }
+    compare_drawn();
     printf("%lu of %lu are wrong\n", wrong, compared);
     return wrong != 0;
 }
