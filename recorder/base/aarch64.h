@@ -51,10 +51,10 @@ enum { PAGE = 4096, MOST_PAGE = 1 << 16 };
 extern uintptr_t system_page __asm__("asancol_system_page") __attribute__((visibility("hidden")));
 #define SYSTEM_PAGE system_page
 
-/* Where the shadow lies. A system has addresses of 39, 47 or 48 bits, which is known once a process runs (mapping.c):
-   so all that compiled code knows by number lies below 2^39. Programs lie at 2/3 of the addresses, such as 0x5555555000 or
-   0xaaaaaaaaa000, and under QEMU from 0x5500000000 on; libraries and stacks below the end, or from 1/4 of it on. What
-   has other addresses is told so. */
+/* Where the shadow lies. A system has addresses of 39, 47 or 48 bits, which is known once a process runs (mapping.c).
+   So all that compiled code knows by number lies below 2^39. Programs lie at 2/3 of the addresses, such as 0x5555555000
+   or 0xaaaaaaaaa000, and under QEMU from 0x5500000000 on; libraries and stacks below the end, or from 1/4 of it on.
+   What has other addresses is told so. */
 enum { ADDRESS_BITS = 48, MORE_BITS = 47, FEWEST_BITS = 39 };
 #define MEMORY_VARIES 1
 /* Of this process: the end of addresses (shadow/mapping.c). */

@@ -155,7 +155,7 @@ static const struct shape *fill_own(uint64_t end)
     return own_place_is_at(STREAM->bytes + locked.checked, cursor) ? fill_hole(locked.checked, end, 0) : NULL;
 }
 
-/* Over what was filled. */
+/* Over a hole that is filled now. */
 static unsigned go_over_hole(const struct shape *shape)
 {
     locked.checked += shape->length;

@@ -1,9 +1,10 @@
 /* Records that are whole, and holes: records that were begun and will never be written, as when a signal handler left
    by a jump.
 
-   Called: holes_fill by places.c, and holes_fill_again by group.c, in the thread whose place that is, also in a handler, without the stream's lock; holes_check by ending.c, switching.c, keeping.c and,
-   without patience, sending.c, with it and perhaps the allocator's, in any thread, also in a handler. A place that is
-   filled is won by one compare-and-swap of its code, so its thread may come back to it at any time. */
+   Called: holes_fill by places.c, and holes_fill_again by group.c, in the thread whose place that is, also in a
+   handler, without the stream's lock; holes_check by ending.c, switching.c, keeping.c and, without patience, sending.c,
+   with it and perhaps the allocator's, in any thread, also in a handler. A place that is filled is won by one
+   compare-and-swap of its code, so its thread may come back to it at any time. */
 #ifndef ASANCOL_HOLES_H
 #define ASANCOL_HOLES_H
 
