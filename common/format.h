@@ -1,4 +1,4 @@
-/* The trace format, version 2: the one place of its numbers on the recorder's side. docs/FORMAT.md says what they mean.
+/* The trace format, version 3: the one place of its numbers on the recorder's side. docs/FORMAT.md says what they mean.
 
    Called: the few functions by the recorder, span_bytes by heap/ and record_length by stream/, in any thread, also in a
    signal handler, and is_side_header by run/side.c in the one thread of asancol-run; no lock: they only compute. Who
@@ -26,7 +26,7 @@ enum code {
 /* The kinds of a poison. */
 enum kind { KIND_USER, KIND_STACK, KIND_GLOBAL };
 
-#define HEADER "ASTR\2\0\0\0"
+#define HEADER "ASTR\3\0\0\0"
 
 /* How many bytes each part of a stream has, codes included. */
 enum {
@@ -190,7 +190,7 @@ struct side_build {
 struct side_progress {
     uint64_t needed;  /* one more than the number of the last event that may be bad; 0: it is not noted */
     uint64_t segment; /* how many segments of this process came before; these have the same process and start */
-    uint64_t stated;  /* how many events state what stood before: at its beginning, or in lean recording at a fault */
+    uint64_t stated;  /* how many events state what stood before: at its beginning, or at a fault */
     uint64_t noted;   /* how many bad accesses and frees are being noted just now, which have no event yet */
     uint64_t forks;   /* how many children it has made by fork in this segment: each has a stream or leaves word */
     uint64_t of_parent, of_parent_started; /* the process and the start of whoever has forked it; 0: nobody recorded */

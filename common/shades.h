@@ -1,6 +1,6 @@
 /* The codes of granules without an addressable byte, and what each means: of the table shades.def.
 
-   Called: the codes by any file of the recorder; shade_kind by stream/stating.c, and shade_class by
+   Called: the codes by any file of the recorder; shade_kind by stream/saying.c, and shade_class by
    recorder/report/wording.c: in any thread, also in a signal handler; no lock: nothing is kept. */
 #ifndef ASANCOL_SHADES_H
 #define ASANCOL_SHADES_H

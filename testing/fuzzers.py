@@ -99,8 +99,8 @@ DRAWN = [
 ]
 
 # The parts of the stream.
-STREAM = ("state", "regions", "places", "watched", "stated", "opening", "growing", "keeping", "sending", "switching",
-          "holes", "held", "ending", "output", "windows", "segments")
+STREAM = ("state", "regions", "places", "saying", "group", "watched", "opening", "growing", "keeping", "sending",
+          "switching", "holes", "held", "ending", "output", "windows", "segments")
 
 # Threads wait for others as long as it takes: on a busy machine one may sleep in the middle of a record for so long
 # that another one puts a record in its place, and both write there (holes.c). recorder/tests/exploring.py has the
@@ -127,9 +127,9 @@ SHARED = [
                                               "environment/hub_names", "shadow/globals", "shadow/shadow",
                                               "stacks/stacks", "stacks/thread_notes", "stacks/walks")),
             *(f"{RECORDER}/stream/{it}.c" for it in (
-                *STREAM, "fault_list", "faults", "findings", "lists", "maps", "modules", "record", "side", "stating",
+                *STREAM, "fault_list", "faults", "findings", "lists", "maps", "modules", "record", "side",
                 "suspending", "test_name", "thread_list"))], [],
-           flags=[PATIENT, "-iquote", OURS, "-include", f"{OURS}/races.h", *TABLES]),
+           flags=[PATIENT, "-include", f"{OURS}/heap.h", *TABLES]),
 ]
 
 

@@ -43,7 +43,7 @@ class Decisions(NamedTuple):
 WRONG_GROUPS = (
     ("< span_bytes(block->size)", "<= span_bytes(block->size)"),
     ("block->size, block->is_held, granule)", "block->size, false, granule)"),
-    ("granule, shade) == shade", "granule, shade) != shade"),
+    ("shade_left(found, granule) == shade", "shade_left(found, granule) != shade"),
     (".size = GRANULE, .is_held = true", ".size = 2 * GRANULE, .is_held = true"),
     (".start = granule + REDZONE", ".start = granule"),
     ("block->is_held ? 2 : 1", "1"),

@@ -1,7 +1,7 @@
 /* All of AArch64 in the recorder, except the assembly of stubs (aarch64_stubs.h). processor.h includes it; what
    each part is for stands in x86_64.h.
 
-   Called: as x86_64.h, in any thread, also in a handler; no lock. system_page, memory_end and stated_start are written
+   Called: as x86_64.h, in any thread, also in a handler; no lock. system_page and memory_end are written
    once, by shadow/mapping.c. */
 #ifndef ASANCOL_AARCH64_H
 #define ASANCOL_AARCH64_H
@@ -51,17 +51,15 @@ enum { PAGE = 4096, MOST_PAGE = 1 << 16 };
 extern uintptr_t system_page __asm__("asancol_system_page") __attribute__((visibility("hidden")));
 #define SYSTEM_PAGE system_page
 
-/* Where the maps lie. A system has addresses of 39, 47 or 48 bits, which is known once a process runs (mapping.c), so
-   all that compiled code knows by number lies below 2^39. Programs lie at 2/3 of the addresses, such as 0x5555555000 or
-   0xaaaaaaaaa000, and under QEMU from 0x5500000000 on; libraries and stacks below the end, or from 1/4 of it on. What
-   has other addresses is told so. */
+/* Where the shadow lies. A system has addresses of 39, 47 or 48 bits, which is known once a process runs (mapping.c).
+   So all that compiled code knows by number lies below 2^39. Programs lie at 2/3 of the addresses, such as 0x5555555000
+   or 0xaaaaaaaaa000, and under QEMU from 0x5500000000 on; libraries and stacks below the end, or from 1/4 of it on.
+   What has other addresses is told so. */
 enum { ADDRESS_BITS = 48, MORE_BITS = 47, FEWEST_BITS = 39 };
 #define MEMORY_VARIES 1
-/* Those of this process: the end of addresses, and where `stated` begins (shadow/mapping.c). */
+/* Of this process: the end of addresses (shadow/mapping.c). */
 extern uint64_t memory_end __asm__("asancol_memory_end") __attribute__((visibility("hidden")));
-extern uint64_t stated_start __asm__("asancol_stated_start") __attribute__((visibility("hidden")));
 #define MEMORY_END memory_end
-#define STATED_START stated_start
 
 /* The shadow is at AddressSanitizer's place: from 2^36 up to 2^37 that of memory below 2^39, */
 #ifndef SHADOW_START /* as a test of the allocator alone has it */
@@ -71,19 +69,16 @@ extern uint64_t stated_start __asm__("asancol_stated_start") __attribute__((visi
 /* and from 5 * 2^36 on that of memory from 2^41 on. What follows, up to there, lies where the shadow of the addresses
    between would be: these are in the shadow themselves. */
 #define HOLE_END ((uint64_t)1 << 41)
-/* The allocator's memory is from 2^37 up to 3 * 2^36, */
+/* The allocator's memory is from 2^37 up to 3 * 2^36. */
 #define ARENA_SHIFT 36
 #define ARENA_NUMBER 2
 #define ARENA_UNITS (1 << 19)
 #define ARENA_SPARE_BYTES ((uint64_t)1 << 32)
-/* and `stated` is from there up to 2^38; or, with more bits, from 3 * 2^44 up to 2^46. */
-#define FEWEST_STATED_START ((uint64_t)3 << 36)
-#define MORE_STATED_START ((uint64_t)3 << 44)
 #define HOOK_PAGE_START 0x4000000000
 #define FAKE_SLOTS_START UINT64_C(0x4100000000)
 #define FAKE_SLOTS_SHIFT 10
 
-/* An emulator keeps notes of each page that is mapped, so the maps there have only these parts of memory. It is known
+/* An emulator keeps notes of each page that is mapped, so the shadow there has only these parts of memory. It is known
    by where it puts the stack. */
 #define MAY_BE_EMULATED 1
 #define EMULATED_START UINT64_C(0x5500000000)

@@ -27,7 +27,6 @@ struct tables {
     char fake_free[132 << 10];
     char files_begun[128 << 10];
     char names_seen[64 << 10];
-    char book_entries[2 << 20];
     _Alignas(MOST_PAGE) char known_faults[1 << 20];
     _Alignas(MOST_PAGE) char stack_words[32 << 20];
     _Alignas(MOST_PAGE) char walks[35 << 20];

@@ -64,7 +64,7 @@ enum { ADDRESS_BITS = 47 };
 /* All of it has a shadow, and an address is spelled in a trace as it is. */
 #define MEMORY_VARIES 0
 
-/* Where the maps lie: free in all layouts of a process. Programs lie from 0x5555.. on, or below 2^32; libraries and
+/* Where the shadow lies: free in all layouts of a process. Programs lie from 0x5555.. on, or below 2^32; libraries and
    stacks below 2^47; with an unlimited stack libraries lie below 0x1555.., and in the old layout (`setarch -L`) from
    0x2aaa.. on.
 
@@ -73,14 +73,12 @@ enum { ADDRESS_BITS = 47 };
 #ifndef SHADOW_START /* as a test of the allocator alone has it */
 #define SHADOW_START ((uint64_t)0x7fff8000)
 #endif
-/* The allocator's memory is from 2^45 up to 5 * 2^43 (arena.h), */
+/* The allocator's memory is from 2^45 up to 5 * 2^43 (arena.h). */
 #define ARENA_SHIFT 43
 #define ARENA_NUMBER 4
 #define ARENA_UNITS (1 << 26)
 #define ARENA_SPARE_BYTES ((uint64_t)1 << 34)
-/* and `stated` is from 2^46 up to 5 * 2^44. */
-#define STATED_START ((uint64_t)1 << 46)
-/* What follows them. In the assembly of stubs it is a number. */
+/* What follows. In the assembly of stubs it is a number. */
 #define HOOK_PAGE_START 0x500000000000
 /* Fake stacks lie behind that; the shift gives their number. */
 #define FAKE_SLOTS_START UINT64_C(0x510000000000)

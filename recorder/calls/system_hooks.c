@@ -27,7 +27,7 @@ enum { SIGNALS_BYTES = 8, ACTION_BYTES = 32, USTAT_BYTES = 32, OLD_NAME_BYTES = 
 /* Whether the program may have memory there: none is at null or in the recorder's maps. The shadow has no shadow. */
 static bool may_be_there(long start)
 {
-    return start != 0 && !is_in_maps((uintptr_t)start);
+    return start != 0 && !is_in_shadow((uintptr_t)start);
 }
 
 static __attribute__((noinline)) void reads(long start, size_t size, struct call call)

@@ -20,7 +20,7 @@ size_t call_text_there(const char *text)
    nowhere without them: that map's own shadow is given, which nobody can read. */
 void *call_gives(const char *text, struct call call)
 {
-    if (UNLIKELY(is_in_maps((uintptr_t)text)))
+    if (UNLIKELY(is_in_shadow((uintptr_t)text)))
         return (void *)shadow_of((uintptr_t)text);
     size_t size = call_text_there(text);
     if (size != 0 || is_in_arena((uintptr_t)text))

@@ -175,10 +175,11 @@ static void *place_block(size_t size, size_t alignment, struct origin from, cons
         paint_redzones(address, size);
     populate(block, address, size);
     note_malloc(address, size);
-    /* The record may be the first of a segment, whose snapshot has the live blocks: this one is not live yet. */
-    block_go(block, BLOCK_LIVE);
     if (!heap.is_unpainted)
         paint_live(address, size);
+    /* The record may be the first of a segment, whose snapshot has the live blocks: this one was not live yet. And of a
+       live block the shadow is whole (differing.c). */
+    block_go(block, BLOCK_LIVE);
     return (void *)address;
 }
 
@@ -198,9 +199,10 @@ static inline __attribute__((always_inline)) void *place_in_slot(struct shard *s
     note_left_out(shard);
     if (!heap.is_unpainted)
         paint_redzones(address, size);
-    block_write(slot.block, notes_on(BLOCK_LIVE, REDZONE, use));
     if (!heap.is_unpainted)
         paint_live(address, size);
+    /* Of a live block the shadow is whole (differing.c). */
+    block_write(slot.block, notes_on(BLOCK_LIVE, REDZONE, use));
     return (void *)address;
 }
 

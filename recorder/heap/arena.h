@@ -7,8 +7,8 @@
    arena_clear, of memory that the thread has; arena_keep_call_sites by numbers.c with all. Who writes notes by
    unit_write, block_write and block_go has those, or is in its shard, for a unit or a block of that. The other
    functions with a body here need none. The last three (nearest.c) need none either, since they read notes by
-   NOTE_NOW: by book.c and differing.c with the allocator's, by stream/near.c (`above`, stream/state.h), interface/,
-   report/describing.c, report/wording.c and leaks/ with or without: in any thread, also in a handler. */
+   NOTE_NOW: by finding.c, differing.c, stream/near.c (`above`, stream/state.h), interface/, report/describing.c,
+   report/wording.c and leaks/, in any thread, also in a handler. */
 #ifndef ASANCOL_ARENA_H
 #define ASANCOL_ARENA_H
 
@@ -88,7 +88,7 @@ enum unit_form {
 };
 
 struct unit {
-    uint8_t kind;
+    _Alignas(8) uint8_t kind;
     uint8_t stale;  /* the period since which it has old bytes; 0: it got new memory, of zeros */
     uint16_t lead;  /* of a slab: how many bytes come before its first slot */
     uint32_t count; /* of a run or a free run: its units; in its body or at its end: how far back it begins; of a slab:
@@ -102,8 +102,7 @@ struct unit {
         };
     };
     /* Of a slab of a shard. */
-    uint32_t left;  /* its slots that are not freed, and one more while it is open; atomic */
-    uint32_t turns; /* how often it was opened */
+    uint32_t left;                       /* its slots that are not freed, and one more while it is open; atomic */
     uint32_t listed_before, listed_next; /* among those that may be used again; 0 is none */
     uint32_t dead;  /* how many of its pages are counted as dead (retiring.c) */
     uint16_t given; /* a bit for each page that was given back */
@@ -204,9 +203,10 @@ static inline void unit_write(uint32_t number, struct unit value)
     SET_NOTE(unit->used, value.used);
 }
 
+/* Whoever sees it sees the shadow as painted before. */
 static inline void block_write(struct block *block, struct block now)
 {
-    SET_NOTE(block->all_bits, now.all_bits);
+    __atomic_store_n(&block->all_bits, now.all_bits, __ATOMIC_RELEASE);
 }
 
 static inline void block_go(struct block *block, enum block_state state)

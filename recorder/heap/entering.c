@@ -2,11 +2,10 @@
    sees that each shard is left. This file alone changes who is in. It has functions of heap.h too.
 
    find_own and give_own take the gate for a moment; enter_somewhere takes the shard, or take_all all. With the gate run
-   membarrier, wait_for, close_all, give_all and open_others, and with all free_deferred. The other static functions
+   membarrier, wait_for, close_all and give_all, and with all free_deferred. The other static functions
    need no lock, and may run in a handler that has interrupted this thread anywhere. */
 #include "heap/entering.h"
 
-#include <limits.h>
 #include <linux/membarrier.h>
 #include <sys/mman.h>
 
@@ -54,16 +53,6 @@ bool heap_is_entered(void)
     return this_visit.is_inside != OUTSIDE;
 }
 
-/* A signal handler has closed the shards of all others. */
-static _Thread_local bool has_closed;
-
-bool heap_is_locked_here(void)
-{
-    if (this_visit.is_inside == INSIDE)
-        return this_visit.has == HAS_ALL || has_closed || library_is_alone();
-    return this_visit.is_inside == AT_THE_LOCK && (has_closed || library_is_alone());
-}
-
 /* All shards. */
 
 static long membarrier(int command)
@@ -71,38 +60,29 @@ static long membarrier(int command)
     return system_call3(SYS_membarrier, command, 0, 0);
 }
 
-/* How often to look whether others have left their shards: in a handler some tens of milliseconds long, since one of
-   them may wait for it in a handler of its own. */
-enum { ANY_TIME = INT_MAX, SHORT_TIME = 400 };
-
-/* A thread of lower priority may be in the middle, so that it needs this processor. False: it is still there. */
-static bool wait_for(const struct shard *shard, int most)
+/* A thread of lower priority may be in the middle, so that it needs this processor. */
+static void wait_for(const struct shard *shard)
 {
     enum { LOOKS = 100, TURNS = 200 };
     static const struct timespec a_while = {.tv_nsec = 50000};
-    for (int looks = 0; atomic_load(&shard->is_busy); looks += looks < most) {
+    for (int looks = 0; atomic_load(&shard->is_busy); looks += looks < TURNS) {
         if (looks < LOOKS)
             processor_pause();
         else if (looks < TURNS)
             system_sched_yield();
-        else if (looks < most || most == ANY_TIME)
-            system_nanosleep(&a_while);
         else
-            return false;
+            system_nanosleep(&a_while);
     }
-    return true;
 }
 
-/* False: somebody is still in one after that time. */
-static bool close_all(int most)
+static void close_all(void)
 {
     atomic_store(&heap.is_closed, true);
     if (atomic_load_explicit(&heap.has_barrier, memory_order_relaxed))
         membarrier(MEMBARRIER_CMD_PRIVATE_EXPEDITED);
     for (const struct shard *it = atomic_load(&heap.shards); it != NULL; it = it->next)
-        if (it != this_visit.own && !wait_for(it, most))
-            return false;
-    return true;
+        if (it != this_visit.own)
+            wait_for(it);
 }
 
 /* Takes the gate, closes the shards and waits until no other thread is in one. A thread that is alone needs neither. */
@@ -113,7 +93,7 @@ static void take_all(void)
         lock_take(&heap.gate);
     heap.is_locked = !alone;
     if (!alone && !heap_is_ordered())
-        close_all(ANY_TIME);
+        close_all();
     note_all_left_out();
 }
 
@@ -275,34 +255,12 @@ void heap_lock(void)
         nested++;
 }
 
-static void open_others(void)
-{
-    has_closed = false;
-    atomic_store(&heap.is_closed, false);
-    lock_give(&heap.gate);
-}
-
-/* The thread that was interrupted is in its shard, or about to go in or out, and has neither the gate nor central: so
-   whoever is in another shard can leave it. It stays there, and the notes on its blocks may be in the middle of a
-   change. Who has the gate may wait for this shard: so nobody waits for the gate here. */
-bool heap_close_here(void)
-{
-    if (heap_is_locked_here())
-        return true;
-    if (this_visit.has == HAS_ALL || arena_changing != 0 || !lock_try(&heap.gate))
-        return false;
-    has_closed = close_all(SHORT_TIME);
-    if (!has_closed)
-        open_others();
-    return has_closed;
-}
-
 void heap_unlock(void)
 {
     if (nested == 0)
         heap_leave();
-    else if (--nested == 0 && has_closed)
-        open_others();
+    else
+        nested--;
 }
 
 /* Jumps. */

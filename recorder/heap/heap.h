@@ -36,15 +36,10 @@ void heap_left_by_jump(uintptr_t target);
 /* This thread ends the process, maybe in a signal handler that has interrupted it in the allocator: blocks freed
    there are freed now. (process/process.c, start/start.c) */
 void heap_ends_here(void);
-/* Whether it has the allocator for itself: also in a signal handler that has interrupted it in there. (entering.c) */
-bool heap_is_locked_here(void);
-/* The same, or it gets it until it unlocks it, which it is about to lock: no other thread is in there then. False:
-   that can't be, or not soon. Undisturbed. (stream/watched.c) */
-bool heap_close_here(void);
 /* Records what stands: a malloc for each block that is live, a malloc and a free for each that is held, and poison
    for released memory and the process's own poison. Of the held blocks the oldest are released until at most this
-   many are held and the events fit into the room. In lean recording nothing is recorded, and the book is empty then
-   (book.h). The heap is locked. (process/process.c, stream/switching.c) */
+   many are held and the events fit into the room. In lean recording nothing is recorded. The heap is
+   locked. (process/process.c, stream/switching.c) */
 void heap_snapshot(uint64_t most_held, uint64_t room);
 /* Whether the shadow shows the state of blocks from now on (process/process.c). If nothing is recorded it need not, */
 void heap_paint(bool is_painted);

@@ -50,8 +50,9 @@ static struct block forgotten_in(uint32_t slot_size)
 static struct block noted_now(const struct slot *slot)
 {
     const struct block *block = &arena.blocks[slot->block];
-    struct block now = {.size = NOTE_NOW(block->size), .large_size = NOTE_NOW(block->large_size)};
-    now.all_bits = NOTE_NOW(block->all_bits);
+    struct block now = {.all_bits = __atomic_load_n(&block->all_bits, __ATOMIC_ACQUIRE)};
+    now.size = NOTE_NOW(block->size);
+    now.large_size = __atomic_load_n(&block->large_size, __ATOMIC_ACQUIRE);
     return now;
 }
 
@@ -221,7 +222,7 @@ unsigned char heap_shade_of(uint64_t granule, unsigned char shade)
         return shade;
     if (!arena_find_around(granule, &block, &start))
         return SHADE_HEAP;
-    unsigned char left = byte_of(start, block.size, block.state == BLOCK_HELD, granule);
+    unsigned char left = shade_of_block(start, block.size, block.state == BLOCK_HELD, granule);
     return addressable_of(left) == 0 ? left : shade;
 }
 

@@ -43,11 +43,11 @@ static void clear(uint32_t from, uint32_t to)
 void heap_paint(bool is_painted)
 {
     bool is_entered = heap_enter_all();
+    heap.is_unpainted = !is_painted; /* first: who compares the shadow sees that it is none */
     if (!is_painted && arena.bytes != NULL) {
         clear(0, arena.committed);
         clear(FIRST_BIG, arena.big_top);
     }
-    heap.is_unpainted = !is_painted;
     if (is_entered)
         heap_leave();
 }

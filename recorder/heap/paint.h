@@ -5,9 +5,8 @@
    here came before the record that takes it away, or after the one that gives it.
 
    Called: by allocating.c and freeing.c, in the thread that is in its shard, for that shard's blocks, or has all
-   (blocks.h); paint_released by quarantine.c with all; no further lock. byte_of by book.c, deciding.c,
-   differing.c and nearest.c, and block_shadow by allocating.c and differing.c too: they only compute. Also in a
-   handler. */
+   (blocks.h); paint_released by quarantine.c with all; no further lock. block_shadow by allocating.c and differing.c
+   too: it only computes. Also in a handler. */
 #ifndef ASANCOL_PAINT_H
 #define ASANCOL_PAINT_H
 
@@ -81,17 +80,6 @@ static inline void paint_held(uintptr_t address, size_t size)
 static inline void paint_released(uintptr_t address, size_t size)
 {
     paint_granules(block_shadow(address) - RED_GRANULES, span_bytes(size) / GRANULE, SHADE_HEAP);
-}
-
-/* The byte that a block leaves in a granule of its span. */
-static inline unsigned char byte_of(uintptr_t start, size_t size, bool is_held, uintptr_t granule)
-{
-    uintptr_t end = start + size;
-    if (granule < start || granule >= end)
-        return SHADE_HEAP;
-    if (is_held)
-        return SHADE_FREED;
-    return end - granule < GRANULE ? (unsigned char)(end - granule) : 0;
 }
 
 #endif

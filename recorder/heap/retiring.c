@@ -127,21 +127,15 @@ static void note_reuse(void)
     side_note_reuse(((uint64_t)arena.top + (arena.big_top - FIRST_BIG)) * UNIT);
 }
 
-/* Each unit has another turn then than ever before, even if its notes were forgotten: by that the book knows stale
-   entries. A slab that is opened counts on from there. */
 void retiring_undo(uint32_t number)
 {
-    enum { OPENED_BETWEEN = 1 << 12 };
-    static uint32_t turns;
     struct unit *unit = &arena.units[number];
     bool has_notes = is_kept(unit);
     uint32_t units = units_at(number);
-    turns += OPENED_BETWEEN;
     heap.kept_bytes -= has_notes ? note_bytes(unit) : 0;
     heap.retired_units -= units;
     for (uint32_t at = number; at < number + units; at++) {
         uint32_t region = at / REGION_UNITS;
-        SET_NOTE(arena.units[at].turns, turns);
         SET_NOTE(heap_retired[region], heap_retired[region] - 1);
         SET_NOTE(heap_forgotten[region], heap_forgotten[region] - !has_notes);
     }

@@ -3,8 +3,8 @@
    Called: by shards.c, and retiring_leave, retiring_undo and the questions about units by reusing.c, in the thread
    that is in its shard or has all (blocks.h), also in a handler that is let in (entering.h), for a unit of any
    shard. Lock: central where a function says so; the others take it here, so their caller has not; a question needs
-   none. retiring_has by book.c and differing.c, and retiring_forgot by book.c and nearest.c, in any thread, also in
-   a handler, with or without the allocator's lock. */
+   none. retiring_has by finding.c and differing.c, and retiring_forgot by finding.c and nearest.c, in any thread,
+   also in a handler, with or without the allocator's lock. */
 #ifndef ASANCOL_RETIRING_H
 #define ASANCOL_RETIRING_H
 

@@ -141,7 +141,6 @@ static void open_unit(struct shard *shard, unsigned class, uint32_t unit, bool i
 {
     struct unit *at = &arena.units[unit];
     uint32_t slots = slots_of(at);
-    SET_NOTE(at->turns, at->turns + 1);
     SET_NOTE(at->form, FORM_OPEN);
     /* Last the unit: a handler may jump out of the middle. */
     shard->slabs[class] = (struct slab){0, 0, (uint16_t)slots, is_again};
@@ -240,6 +239,9 @@ static struct block *next_free_slot(struct slab *slab)
     while (slab->next < slab->end) {
         struct block *block = block_at(slab->unit, slab->next++);
         if (is_settled(block)) {
+            SET_NOTE(block->settled, 0); /* before it is painted as another block (differing.c) */
+            atomic_signal_fence(memory_order_release);
+            PROCESSOR_STAYS_BEHIND;
             count_up(slab->unit);
             return block;
         }

@@ -6,7 +6,6 @@
    with signals blocked. Static functions run there. */
 #define _GNU_SOURCE
 #include "heap/blocks.h"
-#include "heap/book.h"
 #include "heap/heap.h"
 #include "heap/quarantine.h"
 #include "shadow/shadow.h"
@@ -135,7 +134,6 @@ static void fit_quarantine(uint64_t most_held, uint64_t room)
 void heap_snapshot(uint64_t most_held, uint64_t room)
 {
     struct snapshot snapshot = {0};
-    book_forget();
     if (is_lean())
         return;
     heap_order();

@@ -13,7 +13,7 @@
 
 #include "base/processor.h"
 
-/* Beside the maps of the shadow (HOOK_PAGE_START in processor.h). */
+/* Behind the shadow and the allocator's memory (HOOK_PAGE_START in processor.h). */
 #define HOOK_PAGE ((const struct hook_page *)HOOK_PAGE_START)
 
 struct recorder_hooks;

@@ -23,7 +23,7 @@ static bool is_at_beginning(uintptr_t start, size_t size)
 bool given_is_there(uintptr_t start, size_t size)
 {
     struct known_page page = {0};
-    if (is_in_maps(start)) /* nobody knows the shadow of that */
+    if (is_in_shadow(start)) /* nobody knows the shadow of that */
         return false;
     if (is_above_us(start, size) || is_at_beginning(start, size) || is_in_own_file(start, size))
         return true;

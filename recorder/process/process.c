@@ -33,6 +33,7 @@
 #include "stream/held.h"
 #include "stream/keeping.h"
 #include "stream/opening.h"
+#include "stream/regions.h"
 #include "stream/sending.h"
 #include "stream/side.h"
 #include "stream/state.h"
@@ -277,7 +278,8 @@ bool recorder_end_waiting(void)
 static bool begin_full(void)
 {
     if (has_events() || process.settings.quarantine < QUARANTINE_BOUND)
-        return switching_begin_anew();
+        return has_segments() && (!is_hub() || recorder_is_own_process()) && switching_go_on(ALL_EVENTS);
+    record_anew(); /* a thread may have found something since */
     heap_snapshot(UINT64_MAX, stream_snapshot_room());
     return true;
 }
@@ -478,7 +480,6 @@ void recorder_child_begins(void)
         say_unrecorded(why_unrecorded());
         recorded = false;
     }
-    shadow_forked();
     if (!recorded || !begin(HELD_BY_CHILD)) {
         be_idle();
     }

@@ -78,7 +78,7 @@ bool stack_has_frame(uintptr_t frame, uintptr_t address)
         all = switched;
     else if (!is_on_own_stack(frame) && !is_on_handlers_stack(frame, &all))
         all = (struct span){heap_start_around(frame), heap_end_around(frame)}; /* the program has switched by itself */
-    /* With the granule behind it: that is stated too (stated.c). */
+    /* With the granule behind it: that is stated too (stream/saying.h). */
     return address >= frame && is_in(all, address) && heap_end_around(address) >= address + 2 * GRANULE;
 }
 

@@ -66,7 +66,7 @@ static void find_variable(uintptr_t address, struct found *found)
 static void find(uintptr_t address, struct found *found)
 {
     *found = (struct found){.what = NOWHERE};
-    if (is_in_maps(address))
+    if (is_in_shadow(address))
         found->what = IN_SHADOW;
     else if (is_beyond(address, 1))
         return;

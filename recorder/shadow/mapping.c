@@ -94,7 +94,7 @@ static const char *map_part(uint64_t address, uint64_t bytes, int rights, bool *
 
 #if MEMORY_VARIES
 
-uint64_t memory_end = FEWEST_END, stated_start = FEWEST_STATED_START;
+uint64_t memory_end = FEWEST_END;
 uintptr_t system_page = PAGE;
 
 /* How many bytes a page has: advice on no bytes is refused at any address that begins none. */
@@ -113,7 +113,7 @@ static bool has_address(uint64_t address)
     return start == (long)address || start == -EEXIST;
 }
 
-/* And how many bits the addresses have, as far as there are maps for them. It calls the system alone. */
+/* And how many bits the addresses have, as far as there is a shadow for them. It calls the system alone. */
 static void find_system(void)
 {
     find_page();
@@ -123,17 +123,16 @@ static void find_system(void)
         if (!has_address((uint64_t)1 << (bits - 1)))
             continue;
         memory_end = (uint64_t)1 << bits;
-        stated_start = MORE_STATED_START;
         return;
     }
 }
 
-/* Which parts of memory have a place in a map: the last one has no bytes. */
+/* Which parts of memory have a shadow: the last one has no bytes. */
 struct parts {
     struct code_range each[EMULATED_COUNT + 1];
 };
 
-static void parts_of(uint64_t map, struct parts *parts)
+static void parts_of(struct parts *parts)
 {
     static const struct code_range emulated[] = {EMULATED_PARTS};
     _Static_assert(sizeof emulated / sizeof *emulated == EMULATED_COUNT, "there is room");
@@ -141,11 +140,11 @@ static void parts_of(uint64_t map, struct parts *parts)
     if (processor_is_emulated((uintptr_t)__builtin_frame_address(0))) {
         for (size_t i = 0; i < EMULATED_COUNT; i++)
             *next++ = emulated[i];
-    } else if (map == SHADOW_START && memory_end > FEWEST_END) {
+    } else if (memory_end > FEWEST_END) {
         *next++ = (struct code_range){0, FEWEST_END};
         *next++ = (struct code_range){HOLE_END, memory_end - HOLE_END};
     } else {
-        *next++ = (struct code_range){0, map == SHADOW_START ? memory_end : STATED_BYTES * GRANULE};
+        *next++ = (struct code_range){0, memory_end};
     }
     *next = (struct code_range){0, 0};
 }
@@ -164,9 +163,8 @@ struct parts {
     struct code_range each[2];
 };
 
-static inline void parts_of(uint64_t map, struct parts *parts)
+static inline void parts_of(struct parts *parts)
 {
-    (void)map;
     *parts = (struct parts){{{0, MEMORY_END}, {0, 0}}};
 }
 
@@ -183,33 +181,34 @@ static inline const char *keep_hole_empty(void)
 
 #ifdef IN_SHARED_OBJECT
 
-static void map_at_once(uint64_t map)
+static void map_at_once(void)
 {
     struct parts parts;
-    parts_of(map, &parts);
+    parts_of(&parts);
     for (const struct code_range *it = parts.each; it->size != 0; it++)
-        system_mmap((void *)(map + it->start / GRANULE), it->size / GRANULE, PROT_READ | PROT_WRITE, MAP_FLAGS, -1, 0);
+        system_mmap((void *)(SHADOW_START + it->start / GRANULE), it->size / GRANULE, PROT_READ | PROT_WRITE, MAP_FLAGS,
+                    -1, 0);
 }
 
 #endif
 
-/* Maps one of the two maps, part by part. Answers what went wrong, or null. */
-static const char *map_at(uint64_t map, bool *is_new)
+/* Maps the shadow, part by part. Answers what went wrong, or null. */
+static const char *map_shadow(bool *is_new)
 {
     struct parts parts;
     const char *why = NULL;
-    parts_of(map, &parts);
+    parts_of(&parts);
     for (const struct code_range *it = parts.each; it->size != 0 && why == NULL; it++)
-        why = map_part(map + it->start / GRANULE, it->size / GRANULE, PROT_READ | PROT_WRITE, is_new);
+        why = map_part(SHADOW_START + it->start / GRANULE, it->size / GRANULE, PROT_READ | PROT_WRITE, is_new);
     return why;
 }
 
-static void advise_map(uint64_t map, int advice)
+static void advise_shadow(int advice)
 {
     struct parts parts;
-    parts_of(map, &parts);
+    parts_of(&parts);
     for (const struct code_range *it = parts.each; it->size != 0; it++)
-        system_madvise((void *)(map + it->start / GRANULE), it->size / GRANULE, advice);
+        system_madvise((void *)(SHADOW_START + it->start / GRANULE), it->size / GRANULE, advice);
 }
 
 #ifdef IN_SHARED_OBJECT
@@ -236,17 +235,9 @@ static const char *map_tables(void)
 
 #endif
 
-/* What holds for both maps and the tables. If both are new nothing lies between them yet, and the system passes over
-   that. */
-static void advise(bool are_new, int advice)
+static void advise(int advice)
 {
-    uint64_t end = (uint64_t)TABLES + TABLES_BYTES;
-    if (are_new && !MEMORY_VARIES) {
-        system_madvise((void *)SHADOW_START, end - SHADOW_START, advice);
-        return;
-    }
-    advise_map(SHADOW_START, advice);
-    advise_map(STATED_START, advice);
+    advise_shadow(advice);
     system_madvise((void *)TABLES, TABLES_BYTES, advice);
 }
 
@@ -255,22 +246,19 @@ static struct {
     bool shadow, is_new, page;
 } early;
 
-/* Maps the shadow, `stated` and the tables. Answers what went wrong, or null. */
-static const char *map_three(void)
+/* Maps the shadow and the tables. Answers what went wrong, or null. */
+static const char *map_both(void)
 {
-    bool is_new = early.is_new, is_stated_new;
+    bool is_new = early.is_new;
     const char *why = keep_hole_empty();
     if (why == NULL && !early.shadow)
-        why = map_at(SHADOW_START, &is_new);
-    if (why == NULL)
-        why = map_at(STATED_START, &is_stated_new);
+        why = map_shadow(&is_new);
     if (why == NULL)
         why = map_tables();
     if (why != NULL)
         return why;
-    advise(is_new && is_stated_new, MADV_DONTDUMP);
-    advise(is_new && is_stated_new, MADV_NOHUGEPAGE);
-    advise_map(STATED_START, MADV_WIPEONFORK); /* a child's stream states nothing yet */
+    advise(MADV_DONTDUMP);
+    advise(MADV_NOHUGEPAGE);
     return NULL;
 }
 
@@ -284,39 +272,27 @@ static void guard_part(uint64_t start, uint64_t end, const struct code_range *pa
         system_mprotect((void *)shadow_of(start), (end - start) / GRANULE, PROT_NONE);
 }
 
-/* A wild pointer into one of the two maps faults as it would without them: in the compilers' check, which reads the
-   map's own shadow. */
-static void guard(uint64_t map)
+/* A wild pointer into the shadow faults as it would without that: in the compilers' check, which reads the shadow's
+   own. */
+static void guard(void)
 {
-    struct parts parts, have_shadow;
-    parts_of(map, &parts);
-    parts_of(SHADOW_START, &have_shadow);
+    struct parts parts;
+    parts_of(&parts);
     for (const struct code_range *it = parts.each; it->size != 0; it++) {
-        uint64_t start = map + it->start / GRANULE;
-        for (const struct code_range *part = have_shadow.each; part->size != 0; part++)
+        uint64_t start = SHADOW_START + it->start / GRANULE;
+        for (const struct code_range *part = parts.each; part->size != 0; part++)
             guard_part(start, start + it->size / GRANULE, part);
     }
 }
 
 #ifndef IN_SHARED_OBJECT
 
-#if MAY_BE_EMULATED
-
-void shadow_forked(void)
-{
-    if (processor_is_emulated((uintptr_t)__builtin_frame_address(0)))
-        advise_map(STATED_START, MADV_DONTNEED); /* no emulator wipes it */
-}
-
-#endif
-
 bool is_in_guard(uint64_t address)
 {
 #if MEMORY_VARIES
     return address - SHADOW_START < SHADOW_BYTES && !is_in_arena(address);
 #else
-    return address - (uintptr_t)shadow_of(SHADOW_START) < SHADOW_BYTES / GRANULE
-           || address - (uintptr_t)shadow_of(STATED_START) < STATED_BYTES / GRANULE;
+    return address - (uintptr_t)shadow_of(SHADOW_START) < SHADOW_BYTES / GRANULE;
 #endif
 }
 
@@ -432,7 +408,7 @@ static void do_nothing(void)
 __attribute__((used)) static void (*map_at_relocation(void))(void)
 {
     find_system();
-    map_at_once(SHADOW_START);
+    map_at_once();
     system_mmap((void *)HOOK_PAGE_START, PAGE, PROT_READ, HOOK_PAGE_FLAGS, -1, 0);
     return do_nothing;
 }
@@ -467,13 +443,12 @@ static const char *map_all(void)
 #ifndef IN_SHARED_OBJECT
     library_begin();
 #endif
-    why = map_three();
+    why = map_both();
     if (why == NULL)
         why = map_hook_page();
     if (why != NULL)
         return why;
-    guard(SHADOW_START);
-    guard(STATED_START);
+    guard();
     return NULL;
 }
 
@@ -484,7 +459,7 @@ void shadow_map_early(void)
     find_system();
     if (misfit() != NULL)
         return;
-    early.shadow = map_at(SHADOW_START, &early.is_new) == NULL;
+    early.shadow = map_shadow(&early.is_new) == NULL;
     early.page = system_mmap((void *)HOOK_PAGE_START, PAGE, PROT_READ | PROT_WRITE, HOOK_PAGE_FLAGS, -1, 0)
                  == HOOK_PAGE_START;
 }

@@ -4,7 +4,7 @@
    Called: shadow_map by the first call into an object (start/, interface/variables.c, heap/arena.c), shadow_map_early
    by start/resolvers.c before that, shadow_try_to_map by process/preload_choice.c: in the thread of that call. There is
    no second one yet, or the loader's lock is held, as when a shared object maps while it is relocated. shadow_switch
-   and shadow_forked by process/process.c with the allocator's lock, when a recording begins. is_in_guard by
+   by process/process.c with the allocator's lock, when a recording begins. is_in_guard by
    process/signals.c, in a handler, and report/describing.c; is_in_own_file by stacks/ and process/given.c, in any
    thread, also in a handler. No lock: these two read constants. */
 #ifndef ASANCOL_MAPPING_H
@@ -22,19 +22,11 @@ void shadow_map(void) OWN_NAME(shadow_map);
 void shadow_map_early(void) OWN_NAME(shadow_map_early);
 /* The same for a preloaded recorder. False: there is no room, and the process goes on without it. */
 bool shadow_try_to_map(void);
-/* In a forked child, before its stream, which states nothing yet. */
-#if MAY_BE_EMULATED
-void shadow_forked(void);
-#else
-static inline void shadow_forked(void)
-{
-}
-#endif
 /* What checks read of options, in `hook_page`. */
 void shadow_switch(const struct switches *switches);
 /* The object's own code, as the program's in `hook_page`. */
 extern struct code_range own_code OWN_NAME(own_code);
-/* Whether this is in the shadow of the maps themselves, which can't be read: nothing leads there but a wild pointer of
+/* Whether this is in the shadow of the shadow itself, which can't be read: nothing leads there but a wild pointer of
    the program's. */
 bool is_in_guard(uint64_t address);
 /* Whether the bytes are in a part of the object's file that is in memory. */

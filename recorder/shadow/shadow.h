@@ -7,10 +7,8 @@
    here must be addressable there, at the place that a record of the access would have. Being stricter
    costs a record, and no verdict.
 
-   Of memory outside the allocator's the stream says nothing until an access comes that the check flags. A
-   second map of the same form, `stated`, has the byte that the stream states of each granule there. Where the two
-   differ, the stream is brought up before the access is recorded (stated.c). So a frame whose redzones nobody comes
-   near costs nothing, and a stream that begins later begins with a map of zeros.
+   Of memory outside the allocator's the stream says nothing until an access comes that the check flags: its record
+   comes with what states the bytes there (stream/group.h). So a frame whose redzones nobody comes near costs nothing.
 
    Called: by compiled code, which reads and writes it, and by any file, in any thread, also in a handler. No lock:
    who writes owns the memory, and who reads may see the byte before or after. Of the notes in shadow.c,
@@ -28,18 +26,17 @@
 #include "common/format.h"
 #include "common/shades.h"
 
-/* Where the maps lie is a matter of the processor (processor.h): in the place of AddressSanitizer's, the allocator's
-   memory after it, and then `stated`. */
+/* Where it lies is a matter of the processor (processor.h): in the place of AddressSanitizer's, and the allocator's
+   memory after it. */
 #define SHADOW_BYTES (MEMORY_END / GRANULE)
 
 #if MEMORY_VARIES
 
 /* Traces have addresses of 47 bits, so one of 48 is spelled without its upper bit. No two pieces of memory have one
    spelling that matters: the holes are empty, of which one is spelled as the allocator's memory is. Of other memory the
-   stream states what it is spelled as (stated_of), whichever was there before. */
-#define STATED_BYTES ((MEMORY_END < ADDRESS_END ? MEMORY_END : ADDRESS_END) / GRANULE)
+   stream keeps nothing (stream/group.h). */
 _Static_assert((uint64_t)1 << ADDRESS_BITS == 2 * ADDRESS_END, "one bit is left out");
-_Static_assert(HOOK_PAGE_START == FEWEST_STATED_START + FEWEST_END / GRANULE, "it follows the maps");
+_Static_assert(HOOK_PAGE_START >= (uint64_t)(ARENA_NUMBER + 1) << ARENA_SHIFT, "it follows the allocator's memory");
 _Static_assert(FAKE_SLOTS_START + ((uint64_t)1 << (24 + FAKE_SLOTS_SHIFT)) <= SHADOW_START + HOLE_END / GRANULE,
                "what has a number lies before the shadow of memory behind the hole");
 
@@ -63,10 +60,7 @@ static inline bool is_in_shadow(uint64_t address)
 
 #else
 
-#define STATED_BYTES SHADOW_BYTES
 _Static_assert(MEMORY_END <= ADDRESS_END, "a trace can spell each address");
-/* After them comes the hook page. */
-_Static_assert((uint64_t)HOOK_PAGE_START == STATED_START + STATED_BYTES, "it follows the maps");
 
 /* An address as traces have it. */
 static inline uint64_t spelled(uint64_t address)
@@ -94,15 +88,6 @@ static inline bool is_beyond(uint64_t address, uint64_t size)
     return address > MEMORY_END - size || is_in_hole(address);
 }
 
-/* In `stated` alone: a thread is bringing the stream up just now, in a segment whose number ends in these four bits. */
-enum { STATED_BUSY = 0xe0, BUSY_NUMBERS = 0x10 };
-
-/* In one of the two maps: a program that has no recorder has nothing there. */
-static inline bool is_in_maps(uint64_t address)
-{
-    return is_in_shadow(address) || address - STATED_START < STATED_BYTES;
-}
-
 static inline bool is_in_arena(uint64_t address)
 {
     return address >> ARENA_SHIFT == ARENA_NUMBER;
@@ -124,11 +109,6 @@ static inline volatile unsigned char *shadow_of(uint64_t address)
     return (volatile unsigned char *)(SHADOW_START + address / GRANULE);
 }
 
-static inline _Atomic unsigned char *stated_of(uint64_t address)
-{
-    return (_Atomic unsigned char *)(STATED_START + spelled(address) / GRANULE);
-}
-
 /* How many of a granule's first bytes are addressable, by its shadow byte. */
 static inline unsigned addressable_of(unsigned char shade)
 {
@@ -136,10 +116,14 @@ static inline unsigned addressable_of(unsigned char shade)
 }
 
 /* The check of the compilers, which is the collector's too: the granule of the first byte decides. */
+static inline bool shade_is_bad(unsigned shade, uint64_t address, unsigned width)
+{
+    return shade != 0 && (shade >= GRANULE || address % GRANULE + width > shade);
+}
+
 static inline bool shadow_is_bad(uint64_t address, unsigned width)
 {
-    unsigned shade = *shadow_of(address);
-    return shade != 0 && (shade >= GRANULE || address % GRANULE + width > shade);
+    return shade_is_bad(*shadow_of(address), address, width);
 }
 
 /* A redzone of a frame, or a variable whose scope has ended. */
@@ -147,6 +131,17 @@ static inline bool is_of_frame(unsigned char shade)
 {
     return (shade >= SHADE_LEFT && shade <= SHADE_RETURNED) || shade == SHADE_SCOPE || shade == SHADE_ALLOCA_LEFT
            || shade == SHADE_ALLOCA_RIGHT;
+}
+
+/* The byte that a block leaves in a granule of its span. */
+static inline unsigned char shade_of_block(uintptr_t start, size_t size, bool is_held, uintptr_t granule)
+{
+    uintptr_t end = start + size;
+    if (granule < start || granule >= end)
+        return SHADE_HEAP;
+    if (is_held)
+        return SHADE_FREED;
+    return end - granule < GRANULE ? (unsigned char)(end - granule) : 0;
 }
 
 /* Whether an access meets the redzone of a frame that lies in a block: of a coroutine, or of a thread or a handler with

@@ -13,10 +13,10 @@
    the most variables. */
 enum { MAX_GRANULES = 1 << 16, FEW_GRANULES = 1 << 11, MAX_VARIABLES = 1 << 12 };
 
-/* The shadow of the maps themselves can't be read. */
+/* The shadow of the shadow can't be read. */
 static bool has_shadow(uint64_t address)
 {
-    return address < MEMORY_END && !is_in_hole(address) && !is_in_maps(address);
+    return address < MEMORY_END && !is_in_hole(address) && !is_in_shadow(address);
 }
 
 /* Whether a granule, or the end of one, is a redzone of a frame. */

@@ -9,7 +9,7 @@
 #include "base/system.h"
 #include "libc/library.h"
 #include "heap/arena.h"
-#include "heap/book.h"
+#include "heap/finding.h"
 #include "heap/differing.h"
 #include "heap/heap.h"
 #include "interface/interface.h"
@@ -195,12 +195,11 @@ const struct above above = {
     .lock_heap = heap_lock,
     .unlock_heap = heap_unlock,
     .is_in_heap = heap_is_entered,
-    .close_heap = heap_close_here,
     .snapshot = heap_snapshot,
     .hold = heap_set_bound,
     .poisons_in_heap = heap_is_poisoned,
-    .state_access = book_state_access,
-    .state_free = book_state_free,
+    .find_state = heap_find_state,
+    .find_freed = heap_find_freed,
     .find_difference = heap_find_difference,
     .find_nearest = arena_find_nearest,
     .shade_of = heap_shade_of,

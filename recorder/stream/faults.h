@@ -3,11 +3,11 @@
    bad bytes is one fault, and good ones cost nothing.
 
    Called: faults_begin by opening.c, in any thread, also in a handler, with the stream's lock, or before there is a
-   stream (opening.h); fault_begin and fault_end by watched.c and findings.c, fault_of and fault_note by watched.c, in
-   the thread of the bad access or free, also in a handler, with or without the allocator's lock; fault_key there by
-   process/showing.c, without; fault_note_last by process/signals.c, in a handler. All but the first take no lock, only
-   atomics; but a side file may have to get room on the disk, and then side_back takes the stream's for a moment.
-   Nothing is allocated. */
+   stream (opening.h); fault_begin and fault_end by watched.c and findings.c, fault_of by watched.c and fault_note by
+   group.c, in the thread of the bad access or free, also in a handler, with or without the allocator's lock; fault_key
+   there by process/showing.c, without; fault_note_last by process/signals.c, in a handler. All but the first take no
+   lock, only atomics; but a side file may have to get room on the disk, and then side_back takes the stream's for a
+   moment. Nothing is allocated. */
 #ifndef ASANCOL_FAULTS_H
 #define ASANCOL_FAULTS_H
 

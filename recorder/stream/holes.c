@@ -39,34 +39,45 @@ static bool looks_sound(uint64_t offset, uint64_t end, int most_holes)
     return offset <= end;
 }
 
-/* Records that say nothing, by their lengths. */
+/* Records that say nothing, by their lengths. The last is of a history that begins, in which nothing is said yet. */
 static const struct {
     enum code code;
     unsigned length;
-} fillers[] = {{CODE_LOAD, ACCESS_LENGTH}, {CODE_UNPOISON, REGION_LENGTH}, {CODE_POISON, POISON_LENGTH},
-               {CODE_FREE, FREE_LENGTH}};
+} fillers[] = {{CODE_LOAD, ACCESS_LENGTH},
+               {CODE_UNPOISON, REGION_LENGTH},
+               {CODE_POISON, POISON_LENGTH},
+               {CODE_FREE, FREE_LENGTH},
+               {CODE_ANEW, ANEW_LENGTH}};
 
-enum { FILLERS = sizeof fillers / sizeof *fillers };
+static enum code filler(unsigned length)
+{
+    unsigned i = 0;
+    while (fillers[i].length != length)
+        i++;
+    return fillers[i].code;
+}
 
+/* The bytes after the code. */
 static void fill(unsigned char *at, enum code code, unsigned length)
 {
     for (unsigned i = 1; i < length; i++)
         put_byte(at + i, code == CODE_LOAD && i == 1);
 }
 
-void holes_fill(unsigned char *at, unsigned length)
+/* All but the code of the first. */
+void holes_fill_again(unsigned char *at, const struct shape *shape)
 {
-    unsigned i = 0;
-    while (fillers[i].length != length)
-        i++;
-    fill(at, fillers[i].code, length);
-    put_code(at, fillers[i].code); /* it may stand there already */
+    fill(at, filler(shape->lengths[0]), shape->lengths[0]);
+    for (unsigned i = 1, from = shape->lengths[0]; i < shape->count; from += shape->lengths[i++]) {
+        fill(at + from, filler(shape->lengths[i]), shape->lengths[i]);
+        put_byte(at + from, (unsigned char)filler(shape->lengths[i]));
+    }
 }
 
-void holes_fill_again(unsigned char *at)
+void holes_fill(unsigned char *at, const struct shape *shape)
 {
-    unsigned char code = atomic_load_explicit((_Atomic unsigned char *)at, memory_order_acquire);
-    fill(at, code, record_length(code));
+    holes_fill_again(at, shape);
+    put_code(at, filler(shape->lengths[0])); /* it may stand there already */
 }
 
 /* Takes the place of a record that is missing, unless its thread writes it just now. */
@@ -77,28 +88,79 @@ static bool claim(uint64_t offset, enum code code)
     return record_length(seen) == 0 && atomic_compare_exchange_strong(place, &seen, (unsigned char)code);
 }
 
-/* A record that was begun and will never be written, as when a signal handler left by a jump: puts one there that says
-   nothing. Answers its length, 0 where that can't be known, or if it was written now. */
-static unsigned fill_hole(uint64_t offset, uint64_t end, int most_holes)
-{
-    for (unsigned i = 0; i < FILLERS; i++) {
-        unsigned length = fillers[i].length;
-        if (offset + length > end || !looks_sound(offset + length, end, most_holes))
-            continue;
-        if (!claim(offset, fillers[i].code))
-            return 0;
-        holes_fill(STREAM->bytes + offset, length);
-        return length;
+/* What may be missing: one record, or a group of a lean recording (group.c), or of a full one. */
+static const struct shape shapes[] = {
+    {{ACCESS_LENGTH}, 1, ACCESS_LENGTH},
+    {{REGION_LENGTH}, 1, REGION_LENGTH},
+    {{POISON_LENGTH}, 1, POISON_LENGTH},
+    {{FREE_LENGTH}, 1, FREE_LENGTH},
+    {{POISON_LENGTH, ACCESS_LENGTH, REGION_LENGTH}, 3, POISON_LENGTH + ACCESS_LENGTH + REGION_LENGTH},
+};
+static const struct shape lean_shapes[] = {
+#define GROUP(count, length, ...)                                                                                      \
+    {                                                                                                                  \
+        {ANEW_LENGTH, __VA_ARGS__}, 1 + (count), ANEW_LENGTH + (length)                                                \
     }
-    return 0;
+    {{ACCESS_LENGTH}, 1, ACCESS_LENGTH},
+    {{FREE_LENGTH}, 1, FREE_LENGTH},
+    GROUP(2, 27, REGION_LENGTH, ACCESS_LENGTH),
+    GROUP(3, 36, REGION_LENGTH, FREE_LENGTH, ACCESS_LENGTH),
+    GROUP(2, 28, POISON_LENGTH, ACCESS_LENGTH),
+    GROUP(3, 45, REGION_LENGTH, POISON_LENGTH, ACCESS_LENGTH),
+    GROUP(3, 44, REGION_LENGTH, REGION_LENGTH, ACCESS_LENGTH),
+    GROUP(4, 54, REGION_LENGTH, FREE_LENGTH, POISON_LENGTH, ACCESS_LENGTH),
+    GROUP(4, 53, REGION_LENGTH, FREE_LENGTH, REGION_LENGTH, ACCESS_LENGTH),
+    GROUP(1, 9, FREE_LENGTH),
+    GROUP(3, 35, REGION_LENGTH, FREE_LENGTH, FREE_LENGTH),
+#undef GROUP
+};
+
+/* Whether each record in the place of a group has its length in this shape, or is not there yet. */
+static bool fits(const struct shape *shape, uint64_t offset)
+{
+    for (unsigned i = 1; i < shape->count; i++) {
+        offset += shape->lengths[i - 1];
+        unsigned char code = code_at(offset);
+        if (code != CODE_NONE && record_length(code) != shape->lengths[i])
+            return false;
+    }
+    return true;
+}
+
+/* A record that was begun and will never be written, as when a signal handler left by a jump, or a group of them: puts
+   there what says nothing. Answers its shape; null where that can't be known, or if it was written now. In a lean
+   recording no other one may be missing next to it: groups have many lengths, and nobody jumps out of one. */
+static const struct shape *fill_hole(uint64_t offset, uint64_t end, int most_holes)
+{
+    bool is_of_lean = is_lean();
+    const struct shape *all = is_of_lean ? lean_shapes : shapes;
+    unsigned count = is_of_lean ? sizeof lean_shapes / sizeof *all : sizeof shapes / sizeof *all;
+    for (unsigned i = 0; i < count; i++) {
+        uint64_t next = offset + all[i].length;
+        if (next > end || !fits(&all[i], offset) || !looks_sound(next, end, is_of_lean ? 0 : most_holes))
+            continue;
+        if (!claim(offset, filler(all[i].lengths[0])))
+            return NULL;
+        holes_fill(STREAM->bytes + offset, &all[i]);
+        return &all[i];
+    }
+    return NULL;
 }
 
 /* The same if this is where this thread was interrupted, which would wait for itself. What others write just now is
    waited for, since it says how long this is. */
-static unsigned fill_own(uint64_t end)
+static const struct shape *fill_own(uint64_t end)
 {
     uint64_t cursor = CURSOR_ON | locked.checked_events << 32 | locked.checked;
-    return own_place_is_at(STREAM->bytes + locked.checked, cursor) ? fill_hole(locked.checked, end, 0) : 0;
+    return own_place_is_at(STREAM->bytes + locked.checked, cursor) ? fill_hole(locked.checked, end, 0) : NULL;
+}
+
+/* Over a hole that is filled now. */
+static unsigned go_over_hole(const struct shape *shape)
+{
+    locked.checked += shape->length;
+    locked.checked_events += shape->count;
+    return shape->count;
 }
 
 /* Moves `checked` over whole records, and fills holes. Answers how many these were. */
@@ -110,24 +172,26 @@ static unsigned go_over(uint64_t end, uint64_t limit, enum patience patience)
         unsigned char code = code_at(locked.checked);
         /* The common case has its own branch: the processor then need not wait for one record to find the next. */
         unsigned length = LIKELY(code == CODE_LOAD || code == CODE_STORE) ? ACCESS_LENGTH : record_length(code);
-        if (UNLIKELY(length == 0)) {
-            /* With one thread there is nobody to wait for: a signal handler has left by a jump. */
-            bool has_others = !library_is_alone();
-            if (has_others && patience != NONE && looks % LOOKS_EACH == 0)
-                length = fill_own(end);
-            if (length == 0 && has_others && stream_waits_again(looks++, patience))
-                continue;
-            if (length == 0)
-                length = patience != NONE ? fill_hole(locked.checked, end, MAX_HOLES) : 0;
-            if (length == 0 && record_length(code_at(locked.checked)) != 0)
-                continue;
-            if (length == 0)
-                return holes;
-            holes++;
+        if (LIKELY(length != 0)) {
+            looks = 0;
+            locked.checked += length;
+            locked.checked_events++;
+            continue;
         }
+        const struct shape *filled = NULL;
+        /* With one thread there is nobody to wait for: a signal handler has left by a jump. */
+        bool has_others = !library_is_alone();
+        if (has_others && patience != NONE && looks % LOOKS_EACH == 0)
+            filled = fill_own(end);
+        if (filled == NULL && has_others && stream_waits_again(looks++, patience))
+            continue;
+        if (filled == NULL && patience != NONE)
+            filled = fill_hole(locked.checked, end, MAX_HOLES);
+        if (filled != NULL)
+            holes += go_over_hole(filled);
+        else if (record_length(code_at(locked.checked)) == 0)
+            return holes;
         looks = 0;
-        locked.checked += length;
-        locked.checked_events++;
     }
     return holes;
 }

@@ -167,6 +167,7 @@ void opening_segment(void)
     atomic_store(&shared.is_cut, false);
     atomic_store(&shared.is_closed_off, false);
     atomic_store(&shared.is_side_full, false);
+    atomic_fetch_add(&shared.segments_begun, 1);
     sending_begin();
     memcpy(locked.trace.bytes, HEADER, HEADER_LENGTH);
     if (!locked.has_side)

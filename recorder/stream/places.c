@@ -118,7 +118,7 @@ static enum room pass_limit(uint64_t cursor, bool is_of_heap)
 {
     if (has_segments()) {
         if (may_switch(is_of_heap)) {
-            if (!switching_go_on())
+            if (!switching_go_on(0))
                 stream_rest(0);
             return ROOM_IN_ANOTHER;
         }
@@ -151,24 +151,25 @@ static void wait_for_room(uint64_t cursor, uint64_t end)
 }
 
 /* Removes the obstacle to a place that is unusual, if it can. */
-static enum room make_room(uint64_t cursor, unsigned length, bool is_of_heap)
+static enum room make_room(uint64_t cursor, const struct shape *shape, bool is_of_heap)
 {
     /* It was turned off just now, or went on in its next segment. */
     if (!(cursor & CURSOR_ON) || !is_in_stream(cursor))
         return ROOM_IN_ANOTHER;
     bool has_close = atomic_load(&shared.has_close);
-    uint64_t end = (uint32_t)cursor + length + (has_close ? CLOSE_LENGTH : 0), count = (cursor - CURSOR_ON) >> 32;
+    uint64_t end = (uint32_t)cursor + shape->length + (has_close ? CLOSE_LENGTH : 0);
+    uint64_t count = (cursor - CURSOR_ON) >> 32;
     if (count >= plan.settings->limit)
         return pass_limit(cursor, is_of_heap);
-    stop_at(count);
+    stop_at(count + shape->count - 1);
     wait_for_room(cursor, end);
     if (!is_in_stream(cursor))
         return ROOM_IN_ANOTHER;
     if (!has_room(end))
         return NO_ROOM;
     if (atomic_load(&shared.is_closed_off) && may_switch(is_of_heap)) {
-        holes_fill(STREAM->bytes + (uint32_t)cursor, length);
-        switching_go_on();
+        holes_fill(STREAM->bytes + (uint32_t)cursor, shape);
+        switching_go_on(0);
         return ROOM_IN_ANOTHER;
     }
     if (has_close)
@@ -176,10 +177,13 @@ static enum room make_room(uint64_t cursor, unsigned length, bool is_of_heap)
     return ROOM_HERE;
 }
 
-unsigned char *stream_open_place(uint64_t *cursor, unsigned length, bool is_of_heap)
+/* The place of a record that has taken it by this cursor. If the stream goes on in its next segment, it is another
+   cursor. */
+static unsigned char *open_place(uint64_t *cursor, unsigned length, bool is_of_heap)
 {
+    struct shape shape = shape_of_one(length);
     while (stream_is_unusual(*cursor, length) || !is_in_stream(*cursor)) {
-        enum room room = make_room(*cursor, length, is_of_heap);
+        enum room room = make_room(*cursor, &shape, is_of_heap);
         if (room == ROOM_IN_ANOTHER && stream_wake())
             *cursor = stream_take(&STREAM->cursor, CURSOR_EVENT + length);
         else if (room != ROOM_HERE)
@@ -188,6 +192,36 @@ unsigned char *stream_open_place(uint64_t *cursor, unsigned length, bool is_of_h
             break;
     }
     return STREAM->bytes + (uint32_t)*cursor;
+}
+
+enum taking stream_open_group(uint64_t cursor, const struct shape *shape, bool is_of_heap)
+{
+    enum room room = make_room(cursor, shape, is_of_heap);
+    return room == ROOM_HERE ? TAKING_DONE : room == NO_ROOM ? TAKING_LEFT_OUT : TAKING_AGAIN;
+}
+
+/* Not all of a group fits into this segment, and there is no next one: what comes instead says nothing. */
+static enum taking fill_last(bool is_of_heap)
+{
+    unsigned char *at = stream_reserve(ACCESS_LENGTH, is_of_heap);
+    struct shape shape = shape_of_one(ACCESS_LENGTH);
+    if (at == NULL)
+        return TAKING_LEFT_OUT;
+    holes_fill(at, &shape);
+    return TAKING_AGAIN;
+}
+
+enum taking stream_make_way_for(unsigned events, bool is_of_heap)
+{
+    if (!has_segments())
+        return fill_last(is_of_heap);
+    if (events > plan.settings->limit || !may_switch(is_of_heap)) {
+        keeping_leave_out();
+        return TAKING_LEFT_OUT;
+    }
+    if (!switching_go_on(events))
+        stream_rest(0);
+    return TAKING_AGAIN;
 }
 
 unsigned char *stream_reserve(unsigned length, bool is_of_heap)
@@ -200,14 +234,14 @@ unsigned char *stream_reserve(unsigned length, bool is_of_heap)
     }
     uint64_t cursor = stream_take(&STREAM->cursor, CURSOR_EVENT + length);
     unsigned char *at = LIKELY(!stream_is_unusual(cursor, length)) ? STREAM->bytes + (uint32_t)cursor
-                                                                   : stream_open_place(&cursor, length, is_of_heap);
+                                                                   : open_place(&cursor, length, is_of_heap);
     STAYS_KNOWN(cursor); /* to own_place.c */
     return at;
 }
 
 void record_access_slowly(uint64_t cursor, unsigned code_and_width, uint64_t address)
 {
-    unsigned char *at = stream_open_place(&cursor, ACCESS_LENGTH, false);
+    unsigned char *at = open_place(&cursor, ACCESS_LENGTH, false);
     if (at != NULL)
         put_access(at, code_and_width, address);
 }

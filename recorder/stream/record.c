@@ -110,7 +110,7 @@ void record_bad_call(enum code code, uint64_t address, uint64_t size, uint64_t g
 }
 
 /* A poison is first in the shadow, and an unpoison first in the stream, as with blocks (paint.h). Outside the
-   allocator's memory the stream hears of it when an access comes (stated.c), and in lean recording everywhere. */
+   allocator's memory the stream hears of it when an access comes (group.h), and in lean recording everywhere. */
 static void record_piece(enum code code, unsigned char shade, uint64_t address, uint64_t size)
 {
     if (is_in_arena(address))

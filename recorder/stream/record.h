@@ -19,7 +19,6 @@
 #include "stream/regions.h"
 #include "stream/side.h"
 #include "stream/state.h"
-#include "stream/stated.h"
 #include "stream/watched.h"
 #include "stream/writing.h"
 
@@ -78,7 +77,7 @@ static inline void record_piece_of(enum code code, unsigned width, uint64_t addr
         return;
     }
     bool is_watched = atomic_load_explicit(&stream->is_watched, memory_order_relaxed);
-    if (UNLIKELY(is_watched || is_in_frame) || (!is_in_arena(address) && UNLIKELY(!is_stated(address, width)))) {
+    if (UNLIKELY(is_watched || is_in_frame) || (!is_in_arena(address) && UNLIKELY(shadow_is_bad(address, width)))) {
         event = record_watched_access(code_and_width, address, caller, whole);
     } else {
         uint64_t cursor = stream_take(&stream->cursor, CURSOR_EVENT + ACCESS_LENGTH);

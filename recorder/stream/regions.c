@@ -2,7 +2,6 @@
    into pieces. */
 #include "stream/regions.h"
 
-#include "stream/holes.h"
 #include "stream/places.h"
 #include "stream/sending.h"
 #include "stream/side.h"
@@ -76,40 +75,9 @@ void record_free(uint64_t address)
     look_at_clock();
 }
 
-/* The place of a record in this segment, or null. */
-static unsigned char *reserve_here(enum code code)
+void record_anew(void)
 {
-    unsigned segment = atomic_load(&STREAM->segment), length = record_length((unsigned char)code);
-    unsigned char *at = stream_reserve(length, true);
-    if (at == NULL || atomic_load(&STREAM->segment) == segment)
-        return at;
-    holes_fill(at, length);
-    return NULL;
-}
-
-bool record_here(enum code code, uint64_t address, uint64_t size)
-{
-    unsigned char *at = reserve_here(code);
-    if (at == NULL)
-        return false;
-    put_number(at + 1, spelled(address));
-    if (code != CODE_FREE)
-        put_number(at + 9, size);
-    put_code(at, code);
-    side_note_stated();
-    return true;
-}
-
-bool record_poison_here(enum kind kind, uint64_t address, uint64_t size)
-{
-    unsigned char *at = reserve_here(CODE_POISON);
-    if (at == NULL)
-        return false;
-    at[1] = (unsigned char)kind;
-    put_number(at + 2, spelled(address));
-    put_number(at + 10, size);
-    put_code(at, CODE_POISON);
-    if (kind == KIND_USER)
-        side_note_stated();
-    return true;
+    unsigned char *at = stream_reserve(ANEW_LENGTH, true);
+    if (at != NULL)
+        put_code(at, CODE_ANEW);
 }

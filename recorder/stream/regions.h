@@ -1,10 +1,10 @@
 /* Records of regions: blocks, and poison.
 
-   Called: record_free, record_here and record_poison_here by heap/ and watched.c, with the allocator's lock (all,
-   heap/blocks.h); record_region and record_poison there for blocks with it, and by record.c, stating.c and
-   heap/nearest.c for poison with it or without; record_unused by heap/poisoning.c, inside the allocator;
-   region_piece by record.c too. In any thread, also in a handler. No lock here: a record takes its place by an
-   addition (writing.h). Past the limit of events places.c takes the locks for a new segment. */
+   Called: record_free by heap/, with the allocator's lock (all, heap/blocks.h); record_region and record_poison there
+   for blocks with it, and by record.c and heap/nearest.c for poison with it or without; record_unused by
+   heap/poisoning.c, inside the allocator; record_anew by process/process.c; region_piece by record.c too. In any
+   thread, also in a handler. No lock here: a record takes its place by an addition (writing.h). Past the limit of
+   events places.c takes the locks for a new segment. */
 #ifndef ASANCOL_REGIONS_H
 #define ASANCOL_REGIONS_H
 
@@ -21,10 +21,8 @@ void record_poison(enum kind kind, uint64_t address, uint64_t size);
 void record_unused(uint64_t address, uint64_t size);
 /* A free of a block. */
 void record_free(uint64_t address);
-/* A malloc, a free or an unpoison, and a poison, in the allocator's memory, of a size that can be spelled. It is
-   recorded in the segment that there is now, or not at all, and then it answers false. The heap is locked. */
-bool record_here(enum code code, uint64_t address, uint64_t size);
-bool record_poison_here(enum kind kind, uint64_t address, uint64_t size);
+/* The history begins again. With the allocator's lock. */
+void record_anew(void);
 /* How many bytes of a region come before the next multiple of the largest one. */
 uint64_t region_piece(uint64_t address, uint64_t size);
 

@@ -182,7 +182,7 @@ void side_note_reuse(uint64_t bytes)
 static void note_settings(struct side *side, const struct settings *settings)
 {
     struct side_settings *noted = (struct side_settings *)((unsigned char *)side + SIDE_SETTINGS);
-    side->quarantine = held_by_checker(settings->quarantine);
+    side->quarantine = is_lean() ? QUARANTINE_BOUND : settings->quarantine;
     noted->limit = settings->limit;
     noted->is_one = settings->segments == 0;
     noted->halt = settings->halt;
@@ -400,11 +400,11 @@ void side_add_left_good(uint64_t count)
         atomic_fetch_add_explicit((_Atomic uint64_t *)&progress_in(side)->left_good, count, memory_order_relaxed);
 }
 
-void side_note_stated(void)
+void side_note_stated(uint64_t events)
 {
     struct side *side = side_now();
-    if (side != NULL)
-        count_up(&progress_in(side)->stated);
+    if (side != NULL && events != 0)
+        atomic_fetch_add_explicit((_Atomic uint64_t *)&progress_in(side)->stated, events, memory_order_relaxed);
 }
 
 void side_note_fork(void)

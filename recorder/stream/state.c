@@ -25,7 +25,7 @@
 
    Who goes from state to state: opening.c (to RECORDING), switching.c with windows.c and segments.c (SWITCHING),
    suspending.c (SUSPENDED), ending.c (AT_LIMIT, CLOSED) and keeping.c (OFF, and what stands at the end).
-   While RECORDING: record.c, regions.c, watched.c, stated.c and stating.c record; places.c gives them places, and
+   While RECORDING: record.c, regions.c, watched.c and group.c record; places.c gives them places, and
    growing.c room; holes.c fills empty ones, and sending.c and output.c write them. Beside the stream stand faults.c,
    fault_list.c, findings.c, near.c, lists.c, thread_list.c, maps.c and modules.c, in side.c's memory.
 

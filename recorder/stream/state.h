@@ -111,15 +111,8 @@ extern struct shared {
     _Atomic bool has_close;        /* so each has the close after it, in a file */
     _Atomic bool is_late;          /* something bad came after the close */
     _Atomic bool is_closed_off;    /* the process has closed the descriptor: the next record begins a segment */
+    _Atomic unsigned segments_begun; /* of this process, and of those that have forked it */
 } shared;
-
-/* What came of stating the blocks at a bad access or free: the stream states them; or the redzone of a frame, which is
-   to be taken back; or nothing is bad any more; or the stream has gone on in its next segment, which knows nothing. */
-enum stating { STATING_DONE, STATING_FRAME, STATING_NOT_NEEDED, STATING_AGAIN };
-
-/* How this thread has the heap: it has locked it here; or a signal handler has interrupted it in there, where something
-   may be in the middle of a change, and no other thread is; or another one may be. */
-enum holding { HEAP_LOCKED, HEAP_INTERRUPTED, HEAP_AT_LOCK };
 
 /* The first byte of a granule in a block's span whose shadow byte is another one than the block leaves there. */
 struct difference {
@@ -128,24 +121,24 @@ struct difference {
 };
 
 struct nearest;
+struct found;
 
 /* What the stream needs of what stands on it: the allocator, and the process. */
 struct above {
     void (*lock_heap)(void);
     void (*unlock_heap)(void);
     bool (*is_in_heap)(void); /* this thread */
-    bool (*close_heap)(void); /* the same, and no other thread is until it unlocks it; false: one may be */
     /* Records the contents of the heap, in at most this many events. It is locked. */
     void (*snapshot)(uint64_t most_held, uint64_t room);
     /* How many bytes of freed blocks are held from now on; at any time. */
     void (*hold)(uint64_t bytes);
     /* The process poisons a part of a block. */
     void (*poisons_in_heap)(void);
-    /* In lean recording: states what a bad access to a block finds, and what a bad free finds (heap/book.h). The heap
-       is locked. */
-    enum stating (*state_access)(uint64_t address, unsigned width, enum holding holding);
-    enum stating (*state_free)(uint64_t address);
-    /* Where the shadow of the block at an address differs from its notes (heap/differing.h). The heap is locked. */
+    /* Completes the circumstances of a bad access to the allocator's memory (stream/saying.h), or of a bad free, or is
+       false if a block is in use there (heap/finding.h). At any time. */
+    void (*find_state)(struct found *found);
+    bool (*find_freed)(uint64_t address, struct found *found);
+    /* Where the shadow of the block at an address differs from its notes (heap/differing.h). At any time. */
     struct difference (*find_difference)(uint64_t address);
     /* Starts the recorder. False: not here, or not yet. */
     bool (*start)(void);
@@ -176,19 +169,12 @@ extern const struct above above OWN_NAME(above); /* start.c */
 extern _Atomic bool halt_is_on OWN_NAME(halt_is_on);
 
 /* Lean recording: good mallocs and frees are left out, and poison in blocks. What a bad access or free has to
-   find is stated when that comes. It changes with the heap locked. */
+   find is stated beside it (stream/group.h). It changes with the heap locked. */
 extern _Atomic bool lean_is_on OWN_NAME(lean_is_on);
 
 static inline bool is_lean(void)
 {
     return atomic_load_explicit(&lean_is_on, memory_order_relaxed);
-}
-
-/* How many bytes of freed blocks the checker holds if the process has this bound. In lean recording frees are stated,
-   whatever the bound: so it is the default of a checker, or more. */
-static inline uint64_t held_by_checker(uint64_t bound)
-{
-    return is_lean() && bound < QUARANTINE_BOUND ? QUARANTINE_BOUND : bound;
 }
 
 /* The state. */

@@ -21,7 +21,6 @@
 #include "stream/segments.h"
 #include "stream/side.h"
 #include "stream/state.h"
-#include "stream/stated.h"
 #include "stream/windows.h"
 
 static _Thread_local bool is_switching;
@@ -139,7 +138,6 @@ static bool leave_connection(uint64_t cursor, unsigned window)
    and look again. By then nothing is left of what they have looked at. */
 static void begin_next(void)
 {
-    stated_forget();
     opening_segment();
     if (is_file())
         segments_keep(locked.segment, &locked.trace, plan.settings->segments);
@@ -173,7 +171,7 @@ static void switch_segment(uint64_t cursor)
     state_record(STATE_SWITCHING);
 }
 
-bool switching_go_on(void)
+bool switching_go_on(uint64_t events)
 {
     struct disturbance before;
     bool is_in_heap = above.is_in_heap();
@@ -183,7 +181,7 @@ bool switching_go_on(void)
     stream_lock();
     uint64_t cursor = atomic_load(&STREAM->cursor);
     bool is_past = (cursor & CURSOR_ON)
-                   && ((cursor - CURSOR_ON) >> 32 > plan.settings->limit
+                   && (((cursor - CURSOR_ON) >> 32) + events > plan.settings->limit
                        || (is_hub() && output_is_closed(&locked.trace)));
     cursor = is_past ? state_leave(STATE_SWITCHING) : 0;
     if (cursor & CURSOR_ON)
@@ -193,17 +191,4 @@ bool switching_go_on(void)
         above.unlock_heap();
     undisturbed_end(&before);
     return !is_past || (cursor & CURSOR_ON);
-}
-
-bool switching_begin_anew(void)
-{
-    /* What a child of vfork connects to is no connection of its parent's. */
-    if (!has_segments() || (is_hub() && !recorder_is_own_process()))
-        return false;
-    stream_lock();
-    uint64_t cursor = state_leave(STATE_SWITCHING);
-    if (cursor & CURSOR_ON)
-        switch_segment(cursor);
-    stream_unlock();
-    return (cursor & CURSOR_ON) != 0;
 }

@@ -1,9 +1,8 @@
 /* Records that are bad, or may be: with a fault beside the stream.
 
    Called: record_watched_access by record.h without a lock; record_bad_free by heap/freeing.c with the allocator's,
-   and by heap/allocating.c and process/halt.c without, in the thread of the access or free, also in a handler. In
-   lean recording the allocator's lock is taken here, with signals blocked, while what they have to find is stated;
-   places.h takes the stream's. */
+   and by heap/allocating.c and process/halt.c without, in the thread of the access or free, also in a handler. No lock
+   here; places.h takes the stream's, and for a next segment the allocator's. */
 #ifndef ASANCOL_WATCHED_H
 #define ASANCOL_WATCHED_H
 

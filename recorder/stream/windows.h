@@ -3,7 +3,7 @@
    thread that slept, meets plain memory, and not the stream that has come after.
 
    Called: windows_mend by keeping.c, in the handler of SIGBUS, in any thread, without a lock; window_of by places.c
-   and watched.c, in any thread, also in a handler, without one. The rest by opening.c and switching.c, with the
+   and group.h, in any thread, also in a handler, without one. The rest by opening.c and switching.c, with the
    stream's lock, or before there is a stream. */
 #ifndef ASANCOL_WINDOWS_H
 #define ASANCOL_WINDOWS_H

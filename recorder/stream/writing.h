@@ -7,7 +7,7 @@
    So there is no lock that a signal handler could meet, and a handler that comes between the two steps records what it
    does in its own places.
 
-   Called: by record.h, regions.c, watched.c and places.c, in the thread whose record it is, also in a handler; no lock.
+   Called: by record.h, regions.c, group.c and places.c, in the thread whose record it is, also in a handler; no lock.
    put_code also by holes.c, and by keeping.c, with put_number and the stream's lock, for what stands at the end. */
 #ifndef ASANCOL_WRITING_H
 #define ASANCOL_WRITING_H

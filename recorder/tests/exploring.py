@@ -22,9 +22,8 @@ from testing.programs import Started, call
 from testing.watch import LONGEST
 
 # The sources that threads run at once, and the explorer.
-SOURCES = [f"{RECORDER}/stream/{it}.c" for it in ("state", "record", "regions", "places", "watched", "stated",
-                                                  "stating",
-                                                  "opening", "growing", "keeping", "sending", "switching",
+SOURCES = [f"{RECORDER}/stream/{it}.c" for it in ("state", "record", "regions", "places", "saying", "group",
+                                                  "watched", "opening", "growing", "keeping", "sending", "switching",
                                                   "suspending", "holes", "held", "ending", "segments")]
 SOURCES.append(f"{RECORDER}/heap/snapshot.c")
 WORLD, EXPLORER = f"{TESTS}/explore/world.c", f"{TESTS}/explore/explore.c"

@@ -12,9 +12,9 @@
 #include <sys/syscall.h>
 #include <unistd.h>
 
-enum { PAGE = 4096, BLOCK = 100 };
-#define SHADOW_START ((uintptr_t)0x7fff8000)
-#define STATED_START ((uintptr_t)1 << 46)
+#include "base/tables.h"
+
+enum { BLOCK = 100 };
 
 static void take_rights(uintptr_t address, int rights)
 {
@@ -35,7 +35,8 @@ static void at_a_fault(void)
 {
     char bytes[8];
     char *volatile here = bytes;
-    take_rights(STATED_START + (uintptr_t)here / 8, PROT_NONE);
+    if (mprotect(TABLE(char, known_faults), sizeof((struct tables *)0)->known_faults, PROT_NONE) != 0)
+        exit(3);
     here[sizeof bytes] = 1;
 }
 

@@ -8,7 +8,8 @@ import hub
 from drawn import expect_same, recorded
 from inline import make
 from segments import kinds_of, record, segments_of
-from support import TESTS, Compiler, Suite, Trace, expect, run, side_of, traces
+from support import RECORDER, TESTS, TOP, Compiler, Suite, Trace, expect, run, side_of, traces
+from testing.programs import call
 from testing.side import EXIT, SEGMENT
 
 ONE = 1 << 24
@@ -163,8 +164,9 @@ def check_joined(suite: Suite, folder: str, program: str) -> None:
 
 
 def shadows_found(suite: Suite, folder: str, program: str, words: str) -> Tuple[Dict[int, int], List[str]]:
-    """How often each shadow byte was found in the place of another one, and the words of each finding."""
-    record(suite, folder, [program, *words.split()], ONE, ASANCOL_FULL="0", ASANCOL_WHERE="1")
+    """How often each shadow byte was found in the place of another one, and the words of each finding. In a segment
+    all of a place are one."""
+    record(suite, folder, [program, *words.split()], 16, ASANCOL_FULL="0", ASANCOL_WHERE="1")
     found: Dict[int, int] = {}
     texts = []
     for path in sorted(glob.glob(f"{folder}/t*.trace"), key=lambda it: ("segment" in it, it)):
@@ -189,6 +191,14 @@ def check_poisoned(suite: Suite, folder: str, program: str) -> None:
     """None is found where the process has poisoned or unpoisoned something itself, and in stacks that are blocks."""
     for words in ("poisoned 20", "stacks 20", "drawn_fibers 200", "turns 50"):
         expect(shadows_found(suite, folder, program, words), ({}, []), words)
+
+
+def check_said(_suite: Suite, folder: str, compiler: Compiler) -> None:
+    """The statements before a bad access give the collector its shadow byte and its class."""
+    flags = ["-std=gnu11", "-O2", "-iquote", RECORDER, "-iquote", TOP]
+    call([compiler.name, *flags, f"{TESTS}/said.c", f"{RECORDER}/stream/saying.c", "-o", f"{folder}/said"], check=True)
+    ran = run([f"{folder}/said"], folder)
+    expect((ran.returncode, ran.stdout[:5]), (0, b"0 of "), ran.stdout.decode())
 
 
 def check_hub(suite: Suite, folder: str, program: str) -> None:
@@ -255,3 +265,4 @@ def tests(suite: Suite, compiler: Compiler) -> None:
                                  ("hub", check_hub, lean)):
         suite.test(f"{compiler} lean {name}", check, program)
     suite.test(f"{compiler} lean every access", check_every, compiler)
+    suite.test(f"{compiler} lean said", check_said, compiler)

@@ -1,7 +1,7 @@
 /* What the recorder's shadow says and becomes, beside crates/asan_shades, which proves that it is what the collector
    makes of the events: accesses by each shadow byte that a granule may have, all small regions and blocks on small
-   memory, and drawn ones. A region is clean if no access to one of its bytes is bad. And the statement of a granule
-   outside blocks, from each byte before to each byte now, makes the collector's byte that of the shadow.
+   memory, and drawn ones. A region is clean if no access to one of its bytes is bad. And the statements before a
+   bad access outside blocks make the collector's bytes those of the shadow.
    Prints how many answers were compared, and the first that differ; the status is 1 if one does. */
 #define _GNU_SOURCE
 #include <stdbool.h>
@@ -17,7 +17,7 @@ static unsigned char memory[MOST_GRANULES + 64];
 #include "shadow/shadow.c"
 
 #include "heap/paint.h"
-#include "stream/stating.c"
+#include "stream/saying.c"
 
 bool asan_shades_is_bad(uint8_t shadow, uint64_t at, uint8_t width);
 uint8_t asan_shades_poisoned(uint8_t code, uint64_t at, uint64_t end, uint8_t shadow, uint64_t granule);
@@ -97,9 +97,9 @@ static void compare_block(const unsigned char *before, size_t count, uint64_t at
         compare("free", at, size, i, memory[i], asan_shades_left_byte(at, size, true, before[i], i));
         uint64_t granule = i * GRANULE;
         if (granule < at - REDZONE || granule >= at - REDZONE + span_bytes(size))
-            continue; /* byte_of is of a granule of the block's span */
+            continue; /* shade_of_block is of a granule of the block's span */
         for (unsigned is_held = 0; is_held < 2; is_held++)
-            compare("byte_of", at, size, i, byte_of(at, size, is_held, granule),
+            compare("shade_of_block", at, size, i, shade_of_block(at, size, is_held, granule),
                     asan_shades_left_byte(at, size, is_held, before[i], i));
     }
     paint_released(at, size);
@@ -109,27 +109,12 @@ static void compare_block(const unsigned char *before, size_t count, uint64_t at
     }
 }
 
-/* ---- the statement of a granule, number 1 */
-
-union stream_page stream_page;
-/* What the collector has there. */
-static uint8_t stated_byte;
-
-void record_region(enum code code, uint64_t address, uint64_t size)
-{
-    if (code == CODE_UNPOISON)
-        stated_byte = asan_shades_unpoisoned(address, address + size, stated_byte, 1);
-}
+/* ---- the statement before an access to granule 1 */
 
 /* A poison's code in the collector. */
 static uint8_t code_of(enum kind kind)
 {
     return kind == KIND_USER ? SHADE_USER : kind == KIND_GLOBAL ? SHADE_GLOBAL : 0xf2;
-}
-
-void record_poison(enum kind kind, uint64_t address, uint64_t size)
-{
-    stated_byte = asan_shades_poisoned(code_of(kind), address, address + size, stated_byte, 1);
 }
 
 /* A byte of the recorder's as the collector has it. */
@@ -143,24 +128,27 @@ static bool is_shade(unsigned shade)
     return shade < GRANULE || shade >= 0x80;
 }
 
-/* From any byte if the one before is not known. */
-static void compare_change(unsigned char before, unsigned char now)
+/* In a history that begins there. */
+static void compare_statement(unsigned char here, unsigned char next)
 {
-    for (unsigned i = 0; i < (is_busy(before) ? SHADES : 1); i++) {
-        stated_byte = as_stated(is_busy(before) ? shades[i] : before);
-        record_change(GRANULE, before, now);
-        compare("stated", GRANULE, GRANULE, 1, as_stated(now), stated_byte);
-    }
+    struct found found = {.granule = GRANULE, .shade = here, .next = next};
+    struct statement poison[MOST_STATEMENTS];
+    compare("statements", GRANULE, GRANULE, 1, say_access(&found, poison), 1);
+    uint64_t at = poison->address, end = at + poison->size;
+    uint8_t code = code_of(poison->kind);
+    compare("stated", GRANULE, GRANULE, 1, as_stated(here), asan_shades_poisoned(code, at, end, 0, 1));
+    if (addressable_of(here) == 0)
+        return;
+    bool is_left = addressable_of(next) != 0; /* its first byte is addressable, and no more is asked */
+    compare("stated", GRANULE, GRANULE, 2, is_left ? 0 : as_stated(next), asan_shades_poisoned(code, at, end, 0, 2));
 }
 
-static void compare_changes(void)
+static void compare_statements(void)
 {
-    for (unsigned before = 0; before < 256; before++)
-        for (unsigned now = 0; now < 256; now++)
-            for (unsigned next = 0; next < SHADES && is_shade(before) && is_shade(now); next++) {
-                memory[2] = shades[next];
-                compare_change((unsigned char)before, (unsigned char)now);
-            }
+    for (unsigned here = 1; here < 256; here++)
+        for (unsigned next = 0; next < 256; next++)
+            if (is_shade(here) && is_shade(next))
+                compare_statement((unsigned char)here, (unsigned char)next);
 }
 
 static void compare_small_blocks(void)
@@ -216,7 +204,7 @@ int main(void)
     compare_accesses();
     compare_small_regions();
     compare_small_blocks();
-    compare_changes();
+    compare_statements();
     compare_drawn_checks();
     compare_drawn();
     printf("%lu of %lu answers differ from the proved ones\n", differ, compared);

@@ -68,7 +68,8 @@ def tests(suite: Suite, compiler: Compiler) -> None:
     for name, flags in (("inside", ["-O1"]), ("static", ["-O1", "-static"])):
         # The handlers of a static program are not seen.
         handlers = HANDLERS if name != "static" else HANDLERS[:1]
-        program = suite.built(compiler.c, [f"{TESTS}/inside.c"], f"{name}-{compiler}", "-w", "-fno-builtin", *flags)
+        program = suite.built(compiler.c, [f"{TESTS}/inside.c"], f"{name}-{compiler}", "-w", "-fno-builtin",
+                              f"-iquote{RECORDER}", *flags)
         for faults in ("in", "of"):
             chosen = [it for it in FAULTS if (it in INSIDE) == (faults == "in")]
             suite.test(f"{compiler} there: faults {faults} the {'recorder' if faults == 'in' else 'program'}, {name}",

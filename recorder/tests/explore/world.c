@@ -33,6 +33,7 @@
 #include "stream/opening.h"
 #include "stream/own_place.h"
 #include "stream/record.h"
+#include "stream/saying.h"
 #include "stream/side.h"
 #include "stream/suspending.h"
 #include "environment/dormant.h"
@@ -104,7 +105,19 @@ static const struct scenario scenarios[] = {
     {"a fork in the middle of an exec", 4, false, 0, false, 2, 3000, 0, {{RAW_FORK, BAD}, {EXEC, BAD, EXEC}}},
 };
 
+/* The same in lean recording: each bad access begins a history, and good ones are left out. */
+static const struct scenario lean_scenarios[] = {
+    {"lean accesses", 4, false, 0, false, 2, 20000, 0, {{BAD, BAD, BAD}, {BAD, BAD, BAD}}},
+    {"lean accesses of three", 7, false, 0, false, 2, 20000, 0, {{BAD, BAD}, {BAD, BAD}, {BAD, BAD}}},
+    {"lean accesses and frees", 6, false, 0, false, 2, 20000, 0, {{BAD, FREE, FREE, BAD}, {FREE, BAD}}},
+    {"lean handlers that jump", 8, true, 2, true, 2, 20000, 0, {{BAD, BAD, BAD}, {BAD, BAD}}},
+    {"lean, at an exit", 5, false, 0, false, 2, 20000, 0, {{BAD, CLOSE, BAD}, {BAD, BAD, BAD}}},
+    {"lean, of a thread that sleeps", 8, true, 0, false, 2, 20000, 0, {{BAD, BAD, FREE}, {BAD, BAD}}},
+    {"lean, at a fork", 5, false, 0, false, 2, 3000, 0, {{BAD, BAD, FORK, BAD}, {BAD, BAD, BAD}}},
+};
+
 static const struct scenario *scenario;
+static bool scenario_is_lean;
 
 /* What there is at the end. The explorer puts all of this back before each run. */
 
@@ -194,8 +207,9 @@ void side_note_left_good(void) {}
 void side_note_finding_lost(void) {}
 void finding_note_call(const struct wrong_call *wrong) { (void)wrong; }
 void side_note_skipped(uint64_t what) { (void)what; }
-void side_note_stated(void)
+void side_note_stated(uint64_t events)
 {
+    (void)events;
 }
 void side_note_ending(enum ending ending, int number, uint64_t events)
 {
@@ -257,6 +271,19 @@ static void say_child(void)
     world.said_child++;
 }
 static void do_nothing(void) {}
+static void find_state(struct found *found)
+{
+    found->has_block = false;
+}
+static bool find_freed(uint64_t address, struct found *found)
+{
+    found->has_block = false;
+    return address != 0;
+}
+static struct difference find_difference(uint64_t address)
+{
+    return (struct difference){.granule = address & 0};
+}
 static bool has_block(unsigned thread)
 {
     for (unsigned i = 0; i < MAX_STEPS; i++)
@@ -298,8 +325,6 @@ void quarantine_release_oldest(void)
     heap.oldest = heap.oldest->next;
     heap.held_count--;
 }
-/* All of it is recorded. */
-void book_forget(void) {}
 const struct above above = {
     .lock_heap = heap_lock,
     .unlock_heap = heap_unlock,
@@ -307,6 +332,9 @@ const struct above above = {
     .snapshot = heap_snapshot,
     .hold = hold,
     .poisons_in_heap = do_nothing,
+    .find_state = find_state,
+    .find_freed = find_freed,
+    .find_difference = find_difference,
     .say_child = say_child,
 };
 void shadow_poison(uint64_t address, uint64_t size, unsigned char code)
@@ -459,12 +487,7 @@ bool output_lose(struct output *output, const void *address)
 
 int explore_madvise(const volatile void *address, size_t size, int advice)
 {
-    (void)size;
-    if (advice == MADV_DONTNEED && address == (const void *)STATED_START) {
-        EXPLORE_POINT("nothing is stated");
-        memset((void *)stated_of(BAD_AT), 0, PAGE / GRANULE);
-        explore_changed();
-    }
+    (void)address, (void)size, (void)advice;
     return 0;
 }
 
@@ -500,6 +523,13 @@ static void record(unsigned thread, enum step step, unsigned number)
 
 static struct settings settings;
 
+static bool begin_stream(void)
+{
+    bool has_begun = stream_begin(&settings);
+    atomic_store(&lean_is_on, scenario_is_lean);
+    return has_begun;
+}
+
 /* As after_fork_in_child in process.c. */
 static void begin_child(enum state before)
 {
@@ -508,7 +538,7 @@ static void begin_child(enum state before)
     stream_forget();
     stream_unlock();
     undisturbed_begin(&disturbance);
-    if (is_recorded && !stream_begin(&settings))
+    if (is_recorded && !begin_stream())
         explore_fail("the beginning of a child");
     if (is_recorded)
         heap_snapshot(1, stream_snapshot_room());
@@ -516,13 +546,12 @@ static void begin_child(enum state before)
     heap_unlock();
 }
 
-/* A child begins with a stream page of zeros, and nothing is stated. What it records is in its own files alone. */
+/* A child begins with a stream page of zeros. What it records is in its own files alone. */
 static void be_child(unsigned thread, enum child child)
 {
     explore_stay_alone();
     enum state before = stream_state();
     memset(&stream_page, 0, sizeof stream_page);
-    memset((void *)stated_of(BAD_AT), 0, PAGE / GRANULE);
     world.child = child;
     world.first_file = world.file_count;
     world.has_ended = before != STATE_RECORDING && before != STATE_AT_LIMIT;
@@ -531,7 +560,7 @@ static void be_child(unsigned thread, enum child child)
     if (child == CHILD)
         begin_child(before);
     for (unsigned number = 0; number < CHILD_EVENTS; number++)
-        record(thread, number % 2 == 0 ? BAD : GOOD, number);
+        record(thread, number % 2 == 0 || scenario_is_lean ? BAD : GOOD, number);
 }
 
 /* The bytes of the files that are open. */
@@ -641,12 +670,11 @@ void world_begin(void)
     settings = (struct settings){.trace = "t.trace", .limit = scenario->limit, .segments = ALL_SEGMENTS,
                                  .with_side = true, .patience_ms = 1, .is_full = true};
     memset((void *)shadow_of(BAD_AT), 0, PAGE / GRANULE);
-    memset((void *)stated_of(BAD_AT), 0, PAGE / GRANULE);
     memset((void *)shadow_of(BLOCK_AT), 0, PAGE / GRANULE);
     for (unsigned line = 0; line < LINES; line++)
         *shadow_of(BAD_AT + line * APART) = SHADE_RIGHT;
     heap_begin();
-    if (!stream_begin(&settings))
+    if (!begin_stream())
         explore_fail("the beginning");
     heap_snapshot(UINT64_MAX, stream_snapshot_room());
 }
@@ -869,23 +897,12 @@ static uint64_t option(const char *name, int count, char **argv)
     return 0;
 }
 
-int main(int count, char **argv)
+/* Each in a process of its own. */
+static int explore_all(const struct scenario *all, size_t number, struct search search, int count, char **argv)
 {
     int status = 0;
-    struct search search = {.preemptions = (unsigned)option("--preemptions", count, argv),
-                            .rareness = (unsigned)option("--rareness", count, argv),
-                            .seed = option("--seed", count, argv)};
-    search.is_random = search.seed != 0;
-    if (search.is_random && search.rareness == 0)
-        search.rareness = 8;
-    map_at(shadow_of(BAD_AT));
-    map_at(stated_of(BAD_AT));
-    map_at(shadow_of(BLOCK_AT));
-    memory_of_windows = mmap(NULL, (size_t)WINDOWS << WINDOW_SHIFT, PROT_READ | PROT_WRITE,
-                             MAP_SHARED | MAP_ANONYMOUS | MAP_NORESERVE, -1, 0);
-    explore_begin();
-    for (size_t i = 0; i < sizeof scenarios / sizeof *scenarios; i++) {
-        scenario = &scenarios[i];
+    for (size_t i = 0; i < number; i++) {
+        scenario = &all[i];
         if (!is_asked_for(scenario->name, count, argv))
             continue;
         printf("%s: ", scenario->name);
@@ -893,9 +910,27 @@ int main(int count, char **argv)
         int ended = 0;
         pid_t child = fork();
         if (child == 0)
-            return explore_scenario(search, option("--runs", count, argv)) ? 0 : 1;
+            exit(explore_scenario(search, option("--runs", count, argv)) ? 0 : 1);
         if (child < 0 || waitpid(child, &ended, 0) != child || ended != 0)
             status = 1;
     }
     return status;
+}
+
+int main(int count, char **argv)
+{
+    struct search search = {.preemptions = (unsigned)option("--preemptions", count, argv),
+                            .rareness = (unsigned)option("--rareness", count, argv),
+                            .seed = option("--seed", count, argv)};
+    search.is_random = search.seed != 0;
+    if (search.is_random && search.rareness == 0)
+        search.rareness = 8;
+    map_at(shadow_of(BAD_AT));
+    map_at(shadow_of(BLOCK_AT));
+    memory_of_windows = mmap(NULL, (size_t)WINDOWS << WINDOW_SHIFT, PROT_READ | PROT_WRITE,
+                             MAP_SHARED | MAP_ANONYMOUS | MAP_NORESERVE, -1, 0);
+    explore_begin();
+    int status = explore_all(scenarios, sizeof scenarios / sizeof *scenarios, search, count, argv);
+    scenario_is_lean = true;
+    return explore_all(lean_scenarios, sizeof lean_scenarios / sizeof *lean_scenarios, search, count, argv) | status;
 }

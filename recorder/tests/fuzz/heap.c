@@ -23,7 +23,6 @@
 #include "libc/library.h"
 #include "heap/families.h"
 #include "heap/blocks.h"
-#include "heap/book.h"
 #include "heap/heap.h"
 #include "shadow/mapping.h"
 #include "shadow/unused.h"
@@ -58,8 +57,10 @@ static bool is_own_frame(uintptr_t frame) { return frame == 0; }
 const struct above above = {.halt_at = halt_at, .is_own_frame = is_own_frame};
 enum state stream_state(void) { return STATE_RECORDING; }
 union stream_page stream_page;
-bool stream_wake(void) { return true; }
-void book_forget(void) {}
+bool stream_wake(void)
+{
+    return true;
+}
 void stream_stop(const char *why) { fprintf(stderr, "%s\n", why), exit(1); }
 /* Of the thread that takes snapshots. */
 static _Thread_local uint64_t events;
@@ -206,17 +207,14 @@ static uint64_t draw(struct thread *me, uint64_t below)
     return (me->draws ^= me->draws << 17) % below;
 }
 
-/* Of each address at which a block may begin: the turn of its unit in which it was handed out, and one more; or 0. */
-static _Atomic uint32_t *handed_out;
+/* Of each address at which a block may begin: whether it was handed out. */
+static _Atomic bool *handed_out;
 
-/* The book of lean recording knows by the turn whether the block that it has there is the same. */
 static void expect_new(const void *block)
 {
     uint64_t distance = (uint64_t)((const unsigned char *)block - arena.bytes);
-    uint32_t turn = NOTE_NOW(arena.units[distance / UNIT].turns) + 1;
-    uint32_t before = atomic_exchange_explicit(&handed_out[distance / ALIGNMENT], turn, memory_order_relaxed);
-    expect(before == 0 || !round_now.is_new, "an address that was not handed out before");
-    expect(before != turn || heap_is_ordered() || heap.is_unpainted, "another turn at an address used again");
+    bool before = atomic_exchange_explicit(&handed_out[distance / ALIGNMENT], true, memory_order_relaxed);
+    expect(!before || !round_now.is_new, "an address that was not handed out before");
 }
 
 static struct mark *take_block(size_t size, size_t alignment, bool zeroed)
@@ -300,7 +298,7 @@ static void look_at_all(bool is_in_order)
 static void be_in_the_middle(struct thread *me, struct mark *block, uint64_t step)
 {
     heap_lock();
-    expect(heap_is_entered() && heap_is_locked_here(), "that it is entered");
+    expect(heap_is_entered(), "that it is entered");
     void *spare = heap_allocate(100, ALIGNMENT, false, 1);
     expect(spare != NULL && heap_live_size(spare) == 100, "spare memory");
     heap_give_back(spare, 1);
@@ -392,7 +390,7 @@ static void check_all(void)
     enum { COUNT = sizeof bounds / sizeof *bounds };
     size_t bytes = (size_t)UNITS * UNIT / ALIGNMENT * sizeof *handed_out;
     handed_out = mmap(NULL, bytes, PROT_READ | PROT_WRITE, MAP_PRIVATE | MAP_ANONYMOUS | MAP_NORESERVE, -1, 0);
-    expect(handed_out != MAP_FAILED, "the turns");
+    expect(handed_out != MAP_FAILED, "the notes on addresses");
     atomic_store(&lean_is_on, true);
     for (int i = 0; i < COUNT; i++) {
         round_now.has_end = i == COUNT - 2;

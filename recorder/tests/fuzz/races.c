@@ -38,6 +38,7 @@
 #include "stream/opening.h"
 #include "stream/own_place.h"
 #include "stream/record.h"
+#include "stream/saying.h"
 #include "stream/sending.h"
 #include "stream/side.h"
 #include "stream/suspending.h"
@@ -98,15 +99,14 @@ static bool is_not(void) { return false; }
 static void do_nothing(void) {}
 static void snapshot(uint64_t most_held, uint64_t room) { (void)most_held, (void)room; }
 static void hold(uint64_t bytes) { (void)bytes; }
-static enum stating state_access(uint64_t address, unsigned width, enum holding holding)
+static void find_state(struct found *found)
 {
-    (void)address, (void)width, (void)holding;
-    return STATING_DONE;
+    found->has_block = false;
 }
-static enum stating state_free(uint64_t address)
+static bool find_freed(uint64_t address, struct found *found)
 {
-    (void)address;
-    return STATING_DONE;
+    *found = (struct found){.has_block = address % 2 == 0, .start = address / GRANULE * GRANULE, .is_held = true};
+    return true;
 }
 static struct difference find_difference(uint64_t address)
 {
@@ -122,12 +122,11 @@ const struct above above = {
     .lock_heap = lock_heap,
     .unlock_heap = unlock_heap,
     .is_in_heap = is_in_heap,
-    .close_heap = is_not,
     .snapshot = snapshot,
     .hold = hold,
     .poisons_in_heap = do_nothing,
-    .state_access = state_access,
-    .state_free = state_free,
+    .find_state = find_state,
+    .find_freed = find_freed,
     .find_difference = find_difference,
     .start = is_not,
     .say_child = do_nothing,
@@ -385,7 +384,6 @@ int main(void)
     draws = 1;
     thread_is_first();
     map_at(shadow_of(BAD_AT));
-    map_at(stated_of(BAD_AT));
     map_at(shadow_of(BLOCK_AT));
     *(volatile unsigned char *)shadow_of(BAD_AT + THREADS * PAGE) = SHADE_RIGHT;
     run_all(true);

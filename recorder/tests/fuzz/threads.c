@@ -27,7 +27,6 @@
 #include "stream/regions.h"
 #include "stream/sending.h"
 #include "stream/side.h"
-#include "stream/stating.h"
 
 enum { THREADS = 4, RECORDS = 40000, LIMIT = 30000 };
 
@@ -55,9 +54,6 @@ const struct above above = {
     .snapshot = snapshot,
     .hold = hold,
 };
-void stated_bring_up(uint64_t address, unsigned width) { (void)address, (void)width; }
-void stated_show_frame(uint64_t address) { (void)address; }
-void stated_hide_frame(uint64_t address) { (void)address; }
 bool recorder_has_checks(void) { return true; }
 bool recorder_has_begun(void) { return true; }
 bool recorder_is_own_process(void) { return true; }
@@ -81,8 +77,9 @@ void finding_note_call(const struct wrong_call *wrong)
     (void)wrong;
 }
 void side_note_skipped(uint64_t what) { (void)what; }
-void side_note_stated(void)
+void side_note_stated(uint64_t events)
 {
+    (void)events;
 }
 void side_note_ending(enum ending ending, int number, uint64_t events) { (void)ending, (void)number, (void)events; }
 void side_note_late_signal(int number) { (void)number; }
