@@ -45,7 +45,7 @@ static bool find(uint64_t address, unsigned width, struct found *found)
     *found = (struct found){.granule = granule, .shade = *shadow_of(granule), .is_of_heap = is_in_arena(address)};
     if (!shade_is_bad(found->shade, address, width))
         return false;
-    if (addressable_of(found->shade) != 0 && !is_beyond(next, 1))
+    if (addressable_of(found->shade) != 0 && !is_beyond(next, 1) && !is_in_shadow(next))
         found->next = *shadow_of(next);
     if (found->is_of_heap)
         above.find_state(found);
