@@ -120,6 +120,16 @@ static bool put_in_time(unsigned char *at, const unsigned char *bytes, const str
     return put_code_in_time(at, bytes[0], shape);
 }
 
+void group_record_good(unsigned code_and_width, uint64_t address)
+{
+    unsigned char *at = stream_reserve(ACCESS_LENGTH, false);
+    struct group group = {.is_lean = false};
+    if (at == NULL)
+        return;
+    add_itself(&group, code_and_width, address);
+    put_in_time(at, group.bytes, &group.shape);
+}
+
 static uint64_t step_of(const struct shape *shape)
 {
     return shape->count * CURSOR_EVENT + shape->length;
