@@ -46,8 +46,8 @@ goes_on bound stated history (with_bad_free p past none h) =
 module _ (bound : ℕ) (before recorded : List Event) (past run : List Step) (numbers : List (ℕ × ℕ × Detail))
     (alike : HasReportsOfRun bound numbers before past recorded run) (e : Event) where
   in_both : trace.fault_of bound recorded e ≡ fault_in run e →
-      HasReportsOfRun bound (numbers ++ (length recorded + 1, length (events_of run) + 1, shadow_bytes) ∷ []) before past
-      (e ∷ recorded) (Does e ∷ run)
+      HasReportsOfRun bound (numbers ++ (length recorded + 1, length (events_of run) + 1, shadow_bytes) ∷ []) before
+      past (e ∷ recorded) (Does e ∷ run)
   in_both same =
       let last : ℕ × ℕ × Detail = (length recorded + 1, length (events_of run) + 1, shadow_bytes) in
       added_to_both IsSame (trace.verdicts_of bound before) (trace.verdicts_of bound recorded) (verdicts_in past)

@@ -221,8 +221,9 @@ module _ (bound granule here next : ℕ) (events : List Event) (run : List Step)
       (t : Bool) → is_negative here ≡ t
       → class_of_code (lift (state_of (marks bound events)) (cond t granule (granule + 1)))
       ≡ class_of_code (lift (state_of (marks_in run)) (cond t granule (granule + 1)))
-  finds is_store a there t is = class_same (lift (state_of (marks bound events))) (lift (state_of (marks_in run))) granule
-      here next (brings.in_here ∙ sym seen.in_here) brings.in_next seen.in_next t is
+  finds is_store a there t is =
+      class_same (lift (state_of (marks bound events))) (lift (state_of (marks_in run))) granule here next
+      (brings.in_here ∙ sym seen.in_here) brings.in_next seen.in_next t is
 
   same_there : (a : Access) → a.at / 8 ≡ granule
       → lift (state_of (marks bound events)) (a.at / 8) ≡ lift (state_of (marks_in run)) (a.at / 8)

@@ -8,7 +8,7 @@ ghost use Rattle.trace_record.specs.declared.event.Event.TheVariants as event;
 ghost use Rattle.trace_record.specs.Kinds.{kind_number};
 ghost use Rattle.trace_record.specs.Shades.{shade_size, shade_kind};
 ghost use Rattle.shadow_map.specs.Granules.{front_of};
-ghost use Rattle.asan_units.specs.Units.{granule_count, granule_of, granule_size, first_byte};
+ghost use Rattle.asan_units.specs.Units.{granule_count, granule_of, first_byte};
 ghost use Rattle.heap_book.specs.Spans.{IsPlaced};
 ghost use Rattle.asan_check.specs.History.{block_of};
 ghost use Rattle.asan_check.specs.Verdicts.{fault_of, verdicts_of};
@@ -275,9 +275,10 @@ fn say_by_poison(granule: u64, here: u8, next: u8) -> Said
 }
 
 /// What has to be stated before a bad access, so that it finds in a history of its own what it
-/// finds in the run: by the shadow bytes of the granule of its first byte and of the next one, and by the
-/// block that was found there, if there was one. A block that has not left the byte that says the
-/// class is passed over: another one is made up. So what is stated is right whatever was found.
+/// finds in the run: by the shadow bytes of the granule of its first byte and of the next one, and
+/// by the block that was found there, if there was one. A block that has not left the byte that
+/// says the class is passed over: another one is made up. So the statement is right whatever was
+/// found.
 pub fn say_access(granule: u64, here: u8, next: u8, found: Option<Around>) -> Said
     requires low { 4 ≤ granule }
     requires high { granule + 10 ≤ granule_count }

@@ -1,8 +1,7 @@
 //! What `asan_plan` states, for C: recorder/tests/said.c compares the recorder with it.
 #![tactic(auto)]
 
-ghost use Rattle.std.specs.Prelude.{◌≡◌, ◌+◌, ◌≤◌, IfSome};
-ghost use Rattle.asan_units.specs.Units.{granule_count};
+ghost use Rattle.std.specs.Prelude.{IfSome};
 ghost use Rattle.heap_book.specs.Spans.{IsPlaced};
 ghost use Rattle.asan_check.specs.History.{block_of};
 

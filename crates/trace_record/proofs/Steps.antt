@@ -62,7 +62,8 @@ without_last v code (numbers.Access width at) f long first = let bytes = record_
     (take 9 bytes, get_or bytes 9 0, refl, omega arith)
 without_last v code (numbers.Region at size) f long first = let bytes = record_bytes code (numbers.Region at size) in
     (take 16 bytes, get_or bytes 16 0, refl, omega arith)
-without_last v code (numbers.Shade kind at size) f long first = let bytes = record_bytes code (numbers.Shade kind at size) in
+without_last v code (numbers.Shade kind at size) f long first =
+    let bytes = record_bytes code (numbers.Shade kind at size) in
     (take 17 bytes, get_or bytes 17 0, refl, omega arith)
 without_last v code (numbers.Place at) f long first = let bytes = record_bytes code (numbers.Place at) in
     (take 8 bytes, get_or bytes 8 0, refl, omega arith)
