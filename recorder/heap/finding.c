@@ -59,7 +59,8 @@ static unsigned char shade_of(uintptr_t granule, unsigned char shade)
         return shade;
     find_block(&found, granule);
     bool is_near = found.has_block && granule - (found.start - REDZONE) < span_bytes(found.size);
-    return is_near ? shade_of_block(found.start, found.size, found.is_held, granule) : SHADE_HEAP;
+    unsigned char left = is_near ? shade_of_block(found.start, found.size, found.is_held, granule) : SHADE_HEAP;
+    return addressable_of(left) == 0 ? left : SHADE_HEAP; /* the notes may be in the middle of a change */
 }
 
 void heap_find_state(struct found *found)

@@ -78,6 +78,8 @@ static bool is_said(const struct group *group, unsigned length, uint64_t cursor)
 
 static void note_said(const struct group *group, unsigned length, uint64_t cursor)
 {
+    if (!group->is_lean)
+        return;
     unsigned segment = atomic_load(&shared.segments_begun);
     last_said.cursor = 0;
     atomic_signal_fence(memory_order_seq_cst);
@@ -85,7 +87,7 @@ static void note_said(const struct group *group, unsigned length, uint64_t curso
     last_said.length = length;
     memcpy(last_said.bytes, group->bytes, length);
     atomic_signal_fence(memory_order_seq_cst);
-    last_said.cursor = group->is_lean ? cursor : 0;
+    last_said.cursor = cursor;
 }
 
 /* Whether the places's bytes are still this thread's. If not, it has slept for so long that another one has put records
@@ -116,6 +118,16 @@ static bool put_in_time(unsigned char *at, const unsigned char *bytes, const str
     for (unsigned i = 1; i < shape->length; i++)
         put_byte(at + i, bytes[i]);
     return put_code_in_time(at, bytes[0], shape);
+}
+
+void group_record_good(unsigned code_and_width, uint64_t address)
+{
+    unsigned char *at = stream_reserve(ACCESS_LENGTH, false);
+    struct group group = {.is_lean = false};
+    if (at == NULL)
+        return;
+    add_itself(&group, code_and_width, address);
+    put_in_time(at, group.bytes, &group.shape);
 }
 
 static uint64_t step_of(const struct shape *shape)

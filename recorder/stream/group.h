@@ -50,8 +50,10 @@ struct place {
 
 /* Of an access, or of a free, which has no width; null: nothing is stated. */
 void group_make(struct group *group, unsigned code_and_width, uint64_t address, const struct found *found);
-/* Records it, with this in the index, or nothing (0). The statements of this thread's last group are not repeated if
-   nothing was recorded since. TAKING_AGAIN: the stream is in its next segment. */
+/* A good access of a full recording: it stands anywhere, or is left out by a thread that sleeps. */
+void group_record_good(unsigned code_and_width, uint64_t address);
+/* Records a group, with this in the index, or nothing (0). The statements of this thread's last group are not repeated
+   if nothing was recorded since. TAKING_AGAIN: the stream is in its next segment. */
 enum taking group_record(const struct group *group, uint32_t entry, struct moment moment, bool is_of_heap,
                          struct place *place);
 

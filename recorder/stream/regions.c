@@ -78,6 +78,8 @@ void record_free(uint64_t address)
 void record_anew(void)
 {
     unsigned char *at = stream_reserve(ANEW_LENGTH, true);
-    if (at != NULL)
-        put_code(at, CODE_ANEW);
+    if (at == NULL)
+        return;
+    put_code(at, CODE_ANEW);
+    side_note_stated(1);
 }

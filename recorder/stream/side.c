@@ -182,7 +182,8 @@ void side_note_reuse(uint64_t bytes)
 static void note_settings(struct side *side, const struct settings *settings)
 {
     struct side_settings *noted = (struct side_settings *)((unsigned char *)side + SIDE_SETTINGS);
-    side->quarantine = is_lean() ? QUARANTINE_BOUND : settings->quarantine;
+    bool is_little = settings->quarantine < QUARANTINE_BOUND; /* whatever is held, freed blocks are stated */
+    side->quarantine = is_lean() && is_little ? QUARANTINE_BOUND : settings->quarantine;
     noted->limit = settings->limit;
     noted->is_one = settings->segments == 0;
     noted->halt = settings->halt;

@@ -21,7 +21,7 @@ enum { VARIABLES = sizeof variables / sizeof *variables };
 static const char *const phases[] = {" (setup)", " (call)", " (teardown)"};
 
 /* Whether it can be read: what the system has put on the first stack stays there. */
-static bool is_there(struct known_page *page, const void *at, size_t size)
+static inline __attribute__((always_inline)) bool is_there(struct known_page *page, const void *at, size_t size)
 {
     uintptr_t start = (uintptr_t)at;
     bool is_on_stack = start >= (uintptr_t)startup.argv && start < startup.end && size <= startup.end - start;

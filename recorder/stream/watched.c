@@ -45,7 +45,7 @@ static bool find(uint64_t address, unsigned width, struct found *found)
     *found = (struct found){.granule = granule, .shade = *shadow_of(granule), .is_of_heap = is_in_arena(address)};
     if (!shade_is_bad(found->shade, address, width))
         return false;
-    if (addressable_of(found->shade) != 0 && !is_beyond(next, 1))
+    if (addressable_of(found->shade) != 0 && !is_beyond(next, 1) && !is_in_shadow(next))
         found->next = *shadow_of(next);
     if (found->is_of_heap)
         above.find_state(found);
@@ -74,46 +74,49 @@ static void look_for_difference(uint64_t address, bool is_free, struct differenc
         *difference = above.find_difference(address);
 }
 
+static void record_good(unsigned code_and_width, uint64_t address)
+{
+    if (is_lean())
+        return;
+    group_record_good(code_and_width, address);
+    stream_look_at_clock(false);
+}
+
 uint64_t record_watched_access(unsigned code_and_width, uint64_t address, uintptr_t caller, struct access *whole)
 {
     unsigned width = code_and_width >> 8;
-    struct access itself;
+    struct access itself = access_of(code_and_width & 0xff, address, width, caller, NULL);
     struct difference difference = {0};
     struct place place = {0};
     struct found found;
-    bool is_bad, is_done;
+    bool is_noted, is_done;
+    whole = whole != NULL ? whole : &itself;
     if (shadow_is_bad(address, width))
         stay_connected(false);
     do {
         struct moment now = moment_now();
-        is_bad = find(address, width, &found);
-        if (is_lean() && !is_bad)
-            return 0; /* it is left out */
-        bool is_noted = is_bad && has_side();
-        const struct found *stated = is_bad && !is_stated_already(&found, address, width) ? &found : NULL;
+        if (!find(address, width, &found)) {
+            record_good(code_and_width, address);
+            return 0;
+        }
+        const struct found *stated = is_stated_already(&found, address, width) ? NULL : &found;
+        is_noted = has_side();
         /* What comes next may be refused by a filter of system calls, and end the process. */
         if (is_noted) {
             fault_begin(now.window);
-            if (whole == NULL) {
-                itself = access_of(code_and_width & 0xff, address, width, caller, NULL);
-                whole = &itself;
-            }
             look_for_difference(address, false, &difference);
         }
         uint32_t entry = is_noted ? fault_of(now.window, whole, width, address) : 0;
         is_done = record_found(entry, now, code_and_width, address, stated, false, &place);
         if (is_noted)
             fault_end(now.window);
-        is_bad = is_noted;
     } while (!is_done);
-    if (is_bad)
-        note_difference(&difference, whole);
+    note_difference(&difference, whole);
     if (place.at == NULL)
         return 0;
-    if (is_bad)
-        whole->is_noted = true;
-    stream_look_at_clock(is_bad);
-    return is_bad && is_showing() ? place.event : 0;
+    whole->is_noted |= is_noted;
+    stream_look_at_clock(is_noted);
+    return is_noted && is_showing() ? place.event : 0;
 }
 
 void record_bad_free(uint64_t address, uintptr_t caller, const char *call)

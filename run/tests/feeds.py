@@ -83,7 +83,7 @@ FAILING: Dict[str, List[str]] = {
 def check_failing_report(suite: Suite, folder: str, way: str, texts: List[str]) -> None:
     """What the checkers have printed is shown, and a report is a report."""
     ran = suite.run("--", suite.program, "past", "100", FAKE=way)
-    expect_ran(ran, 99, *texts, "p0 #2 store 1 at ", "and 80 more lines", "--keep DIR keeps the traces")
+    expect_ran(ran, 99, *texts, "p0 #3 store 1 at ", "and 80 more lines", "--keep DIR keeps the traces")
     expect(ran.err.count("p0 #"), 20, "lines")
     ran = suite.run("--json", f"{folder}/x", "--", suite.program, "sound", FAKE=way)
     expect_ran(ran, 98, "1 process")
@@ -92,7 +92,7 @@ def check_failing_report(suite: Suite, folder: str, way: str, texts: List[str]) 
 def check_missing_report(suite: Suite, folder: str) -> None:
     for report in ("/proc/none/report", "/etc/passwd"):
         ran = suite.run("--", suite.program, "past", ASANCOL_REPORT=report)
-        expect_ran(ran, 99, f"asancol-run: {report}: ", "p0 #2 store 1 at ")
+        expect_ran(ran, 99, f"asancol-run: {report}: ", "p0 #3 store 1 at ")
         expect_ran(suite.run("--", suite.program, "sound", ASANCOL_REPORT=report), 0)
     line = f"i=0; while [ $i -lt 30 ]; do {suite.program} past; i=$((i+1)); done"
     ran = suite.run("--", "sh", "-c", line, ASANCOL_REPORT="/proc/none/report")
@@ -105,7 +105,7 @@ def check_report_that_stays(suite: Suite, folder: str) -> None:
     started = suite.start("--", suite.program, "past", FAKE="stays")
     time.sleep(4)  # the process waits for its report, too
     started.send_signal(signal.SIGTERM)
-    expect_ran(finish(started), 99, "p0 #2 store 1 at ")
+    expect_ran(finish(started), 99, "p0 #3 store 1 at ")
 
 
 def check_answers(suite: Suite, folder: str) -> None:

@@ -589,7 +589,7 @@ def check_without_python(suite: Suite, folder: str) -> None:
     broken = f"{folder}/asancol-report"
     shutil.copy(REPORT, broken)
     ran = suite.run("--", suite.program, "past", "30", ASANCOL_REPORT=broken)
-    expect_ran(ran, 99, "p0 #2 store 1 at ", "and 10 more lines")
+    expect_ran(ran, 99, "p0 #3 store 1 at ", "and 10 more lines")
 
 
 def check_many(suite: Suite, folder: str) -> None:
