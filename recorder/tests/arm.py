@@ -97,7 +97,7 @@ def check_readme(suite: Suite, folder: str, library: str) -> None:
     text = ran.stderr.decode()
     for part in ("ERROR: asancol: heap-buffer-overflow: store of 6 bytes in strcpy\n", " in main ", "bug.c:11:5\n",
                  " is 0 bytes past the end of a block of 5 bytes\n", "bug.c:10:1",
-                 "1 process, 7 events; all complete\n"):
+                 "1 process, 6 events; all complete\n"):
         expect(part in text, True, f"{part!r} in {text}")
     expect((ran.returncode, ran.stdout), (99, b"Alice\n"), text)
 
