@@ -274,16 +274,6 @@ bool recorder_end_waiting(void)
     return has_begun;
 }
 
-/* Records what stands: in this segment, if that has nothing yet and its checker holds no more; else in the next one. */
-static bool begin_full(void)
-{
-    if (has_events() || process.settings.quarantine < QUARANTINE_BOUND)
-        return has_segments() && (!is_hub() || recorder_is_own_process()) && switching_go_on(ALL_EVENTS);
-    record_anew(); /* a thread may have found something since */
-    heap_snapshot(UINT64_MAX, stream_snapshot_room());
-    return true;
-}
-
 bool recorder_go_full(void)
 {
     struct disturbance before;
@@ -294,9 +284,7 @@ bool recorder_go_full(void)
         return false;
     undisturbed_begin(&before);
     heap_lock();
-    bool was_lean = atomic_exchange(&lean_is_on, false);
-    bool is_full = !was_lean || begin_full();
-    atomic_store(&lean_is_on, !is_full);
+    bool is_full = !is_lean() || ((!is_hub() || recorder_is_own_process()) && switching_go_full());
     heap_unlock();
     undisturbed_end(&before);
     return is_full;

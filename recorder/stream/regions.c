@@ -74,12 +74,3 @@ void record_free(uint64_t address)
     put_code(at, CODE_FREE);
     look_at_clock();
 }
-
-void record_anew(void)
-{
-    unsigned char *at = stream_reserve(ANEW_LENGTH, true);
-    if (at == NULL)
-        return;
-    put_code(at, CODE_ANEW);
-    side_note_stated(1);
-}

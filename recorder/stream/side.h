@@ -28,7 +28,7 @@ void side_note_snapshot(uint64_t events);
 void side_note_left_good(void);
 /* The same for this many at once. (heap/freeing.c) */
 void side_add_left_good(uint64_t count);
-/* At a fault this many events state what stands. (group.c, regions.c) */
+/* At a fault this many events state what stands. (group.c) */
 void side_note_stated(uint64_t events);
 /* Memory of freed blocks is reused, after this many bytes were handed out: the first time counts, in this segment
    and in all that follow. (heap/retiring.c) */

@@ -146,19 +146,18 @@ static void begin_next(void)
     state_set_events_end(0);
     atomic_fetch_add(&STREAM->segment, 1);
     atomic_store(&STREAM->window, locked.window);
+}
+
+static void take_snapshot(void)
+{
     is_switching = locked.takes_snapshot = true;
     above.snapshot(UINT64_MAX, stream_snapshot_room());
     is_switching = locked.takes_snapshot = false;
-    side_note_snapshot(locked.checked_events);
 }
 
-/* From the segment whose cursor this was. The allocator's lock is held too. */
-static void switch_segment(uint64_t cursor)
+/* After the snapshot of a segment. */
+static void turn_on(void)
 {
-    unsigned next = (locked.window + 1) % WINDOWS;
-    if (is_hub() ? !leave_connection(cursor, next) : !leave_file(cursor, next))
-        return;
-    begin_next();
     if (locked.is_overfull) {
         state_go(STATE_AT_LIMIT);
         ending_at(locked.checked, locked.checked_events, FINISH_AT_LIMIT, ENDING_NONE, 0);
@@ -169,6 +168,44 @@ static void switch_segment(uint64_t cursor)
         return;
     }
     state_record(STATE_SWITCHING);
+}
+
+/* From the segment whose cursor this was. The allocator's lock is held too. */
+static void switch_segment(uint64_t cursor)
+{
+    unsigned next = (locked.window + 1) % WINDOWS;
+    if (is_hub() ? !leave_connection(cursor, next) : !leave_file(cursor, next))
+        return;
+    begin_next();
+    take_snapshot();
+    side_note_snapshot(locked.checked_events);
+    turn_on();
+}
+
+/* Whether a full recording may begin in the segment that had this cursor. */
+static bool can_be_full(uint64_t cursor)
+{
+    return cursor < (CURSOR_ON | CURSOR_EVENT) && plan.settings->quarantine >= QUARANTINE_BOUND;
+}
+
+/* It is lean no more while the stream is off: who has found something before looks again. */
+bool switching_go_full(void)
+{
+    stream_lock();
+    uint64_t cursor = state_leave(STATE_SWITCHING);
+    bool is_left = (cursor & CURSOR_ON) != 0;
+    if (is_left) {
+        atomic_store(&lean_is_on, false);
+        if (!can_be_full(cursor)) {
+            switch_segment(cursor);
+        } else {
+            atomic_fetch_add(&STREAM->segment, 1); /* all is looked at again, as in a next one */
+            take_snapshot();
+            turn_on();
+        }
+    }
+    stream_unlock();
+    return is_left;
 }
 
 bool switching_go_on(uint64_t events)

@@ -1,7 +1,8 @@
 /* From one segment to the next.
 
-   Called: switching_go_on by places.c, watched.c and process/process.c, in any thread, also in a handler that has not
-   interrupted the allocator: it takes the allocator's lock, unless this thread has it, and the stream's.
+   Called: switching_go_on by places.c and watched.c, in any thread, also in a handler that has not interrupted the
+   allocator: it takes the allocator's lock, unless this thread has it, and the stream's. switching_go_full by
+   process/process.c with the allocator's, undisturbed: it takes the stream's.
    switching_reserve by places.c with both, in the thread that takes the snapshot; switching_takes_snapshot there, and
    stream_snapshot_room by process/process.c, without a lock. */
 #ifndef ASANCOL_SWITCHING_H
@@ -22,7 +23,8 @@ unsigned char *switching_reserve(unsigned length);
    closed, and no other thread has done so. False: another thread is turning the stream off just now. Any thread, with
    all of the allocator. */
 bool switching_go_on(uint64_t events);
-/* More than any segment has. */
-#define ALL_EVENTS (EVENT_LIMIT + 1)
+/* From lean to full recording: what stands is recorded before anything else, in this segment if that has nothing yet
+   and its checker holds no more, and else in the next one. False: the stream is not on. */
+bool switching_go_full(void);
 
 #endif

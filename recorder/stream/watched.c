@@ -1,5 +1,6 @@
-/* The shadow and the nearest block are read once. Then comes the entry beside the stream, and then the records. If the
-   segment is another one by then, the entry is in the wrong list, and all begins anew. */
+/* The shadow, the nearest block and whether the recording is lean are read once. Then comes the entry beside the
+   stream, and then the records. If the segment is another one by then, the entry is in the wrong list, and all begins
+   anew; or if the recording is lean no more. */
 #define _GNU_SOURCE
 #include "stream/watched.h"
 
@@ -53,18 +54,18 @@ static bool find(uint64_t address, unsigned width, struct found *found)
 }
 
 /* A block is stated by what all have recorded, if these are all. */
-static bool is_stated_already(const struct found *found, uint64_t address, unsigned width)
+static bool is_stated_already(const struct group *group, const struct found *found)
 {
-    return found->is_of_heap && !is_lean() && !is_frame_in_block(address, width);
+    unsigned char shade = addressable_of(found->shade) != 0 ? found->next : found->shade;
+    return found->is_of_heap && !group->is_lean && !is_of_frame(shade);
 }
 
 /* With its statements, or without any (null). */
-static bool record_found(uint32_t entry, struct moment moment, unsigned code_and_width, uint64_t address,
-                         const struct found *found, bool is_of_heap, struct place *place)
+static bool record_found(struct group *group, uint32_t entry, struct moment moment, unsigned code_and_width,
+                         uint64_t address, const struct found *found, bool is_of_heap, struct place *place)
 {
-    struct group group = {.is_lean = is_lean()};
-    group_make(&group, code_and_width, address, found);
-    return group_record(&group, entry, moment, is_of_heap, place) != TAKING_AGAIN;
+    group_make(group, code_and_width, address, found);
+    return group_record(group, entry, moment, is_of_heap, place) != TAKING_AGAIN;
 }
 
 /* Of an access that has interrupted the allocator it is not asked: notes and shadow may be of two states. */
@@ -95,11 +96,12 @@ uint64_t record_watched_access(unsigned code_and_width, uint64_t address, uintpt
         stay_connected(false);
     do {
         struct moment now = moment_now();
+        struct group group = {.is_lean = is_lean()};
         if (!find(address, width, &found)) {
             record_good(code_and_width, address);
             return 0;
         }
-        const struct found *stated = is_stated_already(&found, address, width) ? NULL : &found;
+        const struct found *stated = is_stated_already(&group, &found) ? NULL : &found;
         is_noted = has_side();
         /* What comes next may be refused by a filter of system calls, and end the process. */
         if (is_noted) {
@@ -107,7 +109,7 @@ uint64_t record_watched_access(unsigned code_and_width, uint64_t address, uintpt
             look_for_difference(address, false, &difference);
         }
         uint32_t entry = is_noted ? fault_of(now.window, whole, width, address) : 0;
-        is_done = record_found(entry, now, code_and_width, address, stated, false, &place);
+        is_done = record_found(&group, entry, now, code_and_width, address, stated, false, &place);
         if (is_noted)
             fault_end(now.window);
     } while (!is_done);
@@ -135,8 +137,9 @@ void record_bad_free(uint64_t address, uintptr_t caller, const char *call)
     stay_connected(true);
     do {
         struct moment now = moment_now();
+        struct group group = {.is_lean = is_lean()};
         found = (struct found){.is_of_heap = is_in_arena(address)};
-        if (is_lean() && !above.find_freed(address, &found))
+        if (group.is_lean && !above.find_freed(address, &found))
             return; /* it is one no more */
         is_noted = has_side();
         if (is_noted) {
@@ -144,7 +147,7 @@ void record_bad_free(uint64_t address, uintptr_t caller, const char *call)
             look_for_difference(address, true, &difference);
         }
         uint32_t entry = is_noted ? fault_of(now.window, &access, 0, address) : 0;
-        is_done = record_found(entry, now, CODE_FREE, address, is_lean() ? &found : NULL, true, &place);
+        is_done = record_found(&group, entry, now, CODE_FREE, address, group.is_lean ? &found : NULL, true, &place);
         if (is_noted)
             fault_end(now.window);
     } while (!is_done);

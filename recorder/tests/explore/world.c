@@ -60,6 +60,7 @@ enum step {
     STORE,
     UNPOISON,
     MALLOC,
+    FULL,
     EXEC,
     FORK,
     RAW_FORK,
@@ -113,6 +114,7 @@ static const struct scenario lean_scenarios[] = {
     {"lean handlers that jump", 8, true, 2, true, 2, 20000, 0, {{BAD, BAD, BAD}, {BAD, BAD}}},
     {"lean, at an exit", 5, false, 0, false, 2, 20000, 0, {{BAD, CLOSE, BAD}, {BAD, BAD, BAD}}},
     {"lean, of a thread that sleeps", 8, true, 0, false, 2, 20000, 0, {{BAD, BAD, FREE}, {BAD, BAD}}},
+    {"lean, and then full", 64, false, 0, false, 2, 20000, 0, {{POISON, STORE, STORE, STORE}, {FULL}}},
     {"lean, at a fork", 5, false, 0, false, 2, 3000, 0, {{BAD, BAD, FORK, BAD}, {BAD, BAD, BAD}}},
 };
 
@@ -519,6 +521,17 @@ static void record(unsigned thread, enum step step, unsigned number)
     world.is_optional[thread][expected] = was_ended || world.has_ended;
 }
 
+/* As recorder_go_full in process.c. */
+static void go_full(void)
+{
+    struct disturbance before;
+    undisturbed_begin(&before);
+    heap_lock();
+    switching_go_full();
+    heap_unlock();
+    undisturbed_end(&before);
+}
+
 /* Forks. Files and their windows are shared with a child, and all else is its own. */
 
 static struct settings settings;
@@ -619,6 +632,9 @@ static void do_step(unsigned thread, enum step step, unsigned number)
         record_region(CODE_MALLOC, GOOD_AT + PAGE + thread * APART, GRANULE);
         heap_unlock();
         break;
+    case FULL:
+        go_full();
+        break;
     case EXEC:
         heap_lock(); /* nobody goes on in another segment */
         if (stream_suspend(0))
@@ -667,8 +683,13 @@ void world_handle(unsigned thread)
 
 void world_begin(void)
 {
-    settings = (struct settings){.trace = "t.trace", .limit = scenario->limit, .segments = ALL_SEGMENTS,
-                                 .with_side = true, .patience_ms = 1, .is_full = true};
+    settings = (struct settings){.trace = "t.trace",
+                                 .limit = scenario->limit,
+                                 .segments = ALL_SEGMENTS,
+                                 .with_side = true,
+                                 .patience_ms = 1,
+                                 .is_full = true,
+                                 .quarantine = QUARANTINE_BOUND};
     memset((void *)shadow_of(BAD_AT), 0, PAGE / GRANULE);
     memset((void *)shadow_of(BLOCK_AT), 0, PAGE / GRANULE);
     for (unsigned line = 0; line < LINES; line++)
