@@ -88,7 +88,8 @@ static bool claim(uint64_t offset, enum code code)
     return record_length(seen) == 0 && atomic_compare_exchange_strong(place, &seen, (unsigned char)code);
 }
 
-/* What may be missing: one record, or a group of a lean recording (group.c), or of a full one. */
+/* What may be missing: one record, or a group of a lean recording (group.c), or of a full one. In a lean one the byte
+   after it is the anew of the next group, so the shorter ones come first. */
 static const struct shape shapes[] = {
     {{ACCESS_LENGTH}, 1, ACCESS_LENGTH},
     {{REGION_LENGTH}, 1, REGION_LENGTH},
@@ -101,50 +102,64 @@ static const struct shape lean_shapes[] = {
     {                                                                                                                  \
         {ANEW_LENGTH, __VA_ARGS__}, 1 + (count), ANEW_LENGTH + (length)                                                \
     }
-    {{ACCESS_LENGTH}, 1, ACCESS_LENGTH},
     {{FREE_LENGTH}, 1, FREE_LENGTH},
-    GROUP(2, 27, REGION_LENGTH, ACCESS_LENGTH),
-    GROUP(3, 36, REGION_LENGTH, FREE_LENGTH, ACCESS_LENGTH),
-    GROUP(2, 28, POISON_LENGTH, ACCESS_LENGTH),
-    GROUP(3, 45, REGION_LENGTH, POISON_LENGTH, ACCESS_LENGTH),
-    GROUP(3, 44, REGION_LENGTH, REGION_LENGTH, ACCESS_LENGTH),
-    GROUP(4, 54, REGION_LENGTH, FREE_LENGTH, POISON_LENGTH, ACCESS_LENGTH),
-    GROUP(4, 53, REGION_LENGTH, FREE_LENGTH, REGION_LENGTH, ACCESS_LENGTH),
+    {{ACCESS_LENGTH}, 1, ACCESS_LENGTH},
     GROUP(1, 9, FREE_LENGTH),
+    GROUP(2, 27, REGION_LENGTH, ACCESS_LENGTH),
+    GROUP(2, 28, POISON_LENGTH, ACCESS_LENGTH),
     GROUP(3, 35, REGION_LENGTH, FREE_LENGTH, FREE_LENGTH),
+    GROUP(3, 36, REGION_LENGTH, FREE_LENGTH, ACCESS_LENGTH),
+    GROUP(3, 44, REGION_LENGTH, REGION_LENGTH, ACCESS_LENGTH),
+    GROUP(3, 45, REGION_LENGTH, POISON_LENGTH, ACCESS_LENGTH),
+    GROUP(4, 53, REGION_LENGTH, FREE_LENGTH, REGION_LENGTH, ACCESS_LENGTH),
+    GROUP(4, 54, REGION_LENGTH, FREE_LENGTH, POISON_LENGTH, ACCESS_LENGTH),
 #undef GROUP
 };
 
-/* Whether each record in the place of a group has its length in this shape, or is not there yet. */
-static bool fits(const struct shape *shape, uint64_t offset)
+/* How many codes after the first one are there, in a row: they are stored in their order. Less than 0: there is one of
+   another length. */
+static int codes_there(const struct shape *shape, uint64_t offset)
 {
+    unsigned there = 0;
     for (unsigned i = 1; i < shape->count; i++) {
         offset += shape->lengths[i - 1];
         unsigned char code = code_at(offset);
         if (code != CODE_NONE && record_length(code) != shape->lengths[i])
-            return false;
+            return -1;
+        there += code != CODE_NONE && there == i - 1;
     }
-    return true;
+    /* An access of 4 bytes looks like an anew and a free. */
+    return shape->count > 2 ? (int)there : 0;
+}
+
+/* The shape of a hole: the one with most of its codes there, and of those the first; or null. In a lean recording no
+   other hole may be next to it: groups have many lengths, and nobody jumps out of one. */
+static const struct shape *shape_at(uint64_t offset, uint64_t end, int most_holes)
+{
+    bool is_of_lean = is_lean();
+    const struct shape *all = is_of_lean ? lean_shapes : shapes, *found = NULL;
+    unsigned count = is_of_lean ? sizeof lean_shapes / sizeof *all : sizeof shapes / sizeof *all;
+    int most = -1;
+    for (unsigned i = 0; i < count; i++) {
+        uint64_t next = offset + all[i].length;
+        int there = next <= end ? codes_there(&all[i], offset) : -1;
+        if (there <= most || !looks_sound(next, end, is_of_lean ? 0 : most_holes))
+            continue;
+        most = there;
+        found = &all[i];
+    }
+    return found;
 }
 
 /* A record that was begun and will never be written, as when a signal handler left by a jump, or a group of them: puts
-   there what says nothing. Answers its shape; null where that can't be known, or if it was written now. In a lean
-   recording no other one may be missing next to it: groups have many lengths, and nobody jumps out of one. */
+   there what says nothing. Answers its shape; null where that can't be known, or if it was written now. */
 static const struct shape *fill_hole(uint64_t offset, uint64_t end, int most_holes)
 {
-    bool is_of_lean = is_lean();
-    const struct shape *all = is_of_lean ? lean_shapes : shapes;
-    unsigned count = is_of_lean ? sizeof lean_shapes / sizeof *all : sizeof shapes / sizeof *all;
-    for (unsigned i = 0; i < count; i++) {
-        uint64_t next = offset + all[i].length;
-        if (next > end || !fits(&all[i], offset) || !looks_sound(next, end, is_of_lean ? 0 : most_holes))
-            continue;
-        if (!claim(offset, filler(all[i].lengths[0])))
-            return NULL;
-        holes_fill(STREAM->bytes + offset, &all[i]);
-        return &all[i];
-    }
-    return NULL;
+    const struct shape *shape = shape_at(offset, end, most_holes);
+    if (shape == NULL || !claim(offset, filler(shape->lengths[0])))
+        return NULL;
+    holes_fill(STREAM->bytes + offset, shape);
+    return shape;
 }
 
 /* The same if this is where this thread was interrupted, which would wait for itself. What others write just now is

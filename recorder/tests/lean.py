@@ -201,6 +201,14 @@ def check_said(_suite: Suite, folder: str, compiler: Compiler) -> None:
     expect((ran.returncode, ran.stdout[:5]), (0, b"0 of "), ran.stdout.decode())
 
 
+def check_holes(_suite: Suite, folder: str, compiler: Compiler) -> None:
+    """A group whose thread sleeps in the middle of it hides no other one."""
+    flags = ["-std=gnu11", "-O2", "-iquote", RECORDER, "-iquote", TOP]
+    call([compiler.name, *flags, f"{TESTS}/holes.c", f"{RECORDER}/stream/holes.c", "-o", f"{folder}/holes"], check=True)
+    ran = run([f"{folder}/holes"], folder)
+    expect((ran.returncode, ran.stdout), (0, b""), "what is read")
+
+
 def check_hub(suite: Suite, folder: str, program: str) -> None:
     """A block in the way begins another connection of the process. Each fault is there once."""
     peers, said = hub.run_under(folder, [program, "turns", "500"], ASANCOL_QUARANTINE="200", ASANCOL_LIMIT="100")
@@ -266,3 +274,4 @@ def tests(suite: Suite, compiler: Compiler) -> None:
         suite.test(f"{compiler} lean {name}", check, program)
     suite.test(f"{compiler} lean every access", check_every, compiler)
     suite.test(f"{compiler} lean said", check_said, compiler)
+    suite.test(f"{compiler} lean holes", check_holes, compiler)
