@@ -97,6 +97,12 @@ said_events s = shading_events s.shading ++ block_events s.block
 
 -- ---- when it is right
 
+-- a block has left this byte in a granule, as it is, live or held
+abbrev pub HasLeft : Around → ℕ → ℕ → Type 0
+HasLeft found granule shadow =
+    IsPlaced (block_of found.region)
+    × (left_by (block_of found.region) found.is_held granule ≡ shadow)
+
 -- this states a block, live or held
 abbrev pub IsStatedOf : Around → Stated → Type 0
 IsStatedOf found stated.Nothing = ⊥

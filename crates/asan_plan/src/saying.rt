@@ -2,6 +2,7 @@
 //! collector finds there what the process has found.
 
 ghost use Rattle.std.specs.Prelude.{◌≡◌, ◌+◌, ◌≤◌, ◌<◌, ℕ, Bool, true, false, List, [], IfSome};
+ghost use Rattle.std.specs.Prelude.{IsTrue, Some};
 ghost use Rattle.trace_record.specs.declared.event.Access.{Access};
 ghost use Rattle.trace_record.specs.declared.event.Place.{Place as APlace};
 ghost use Rattle.trace_record.specs.declared.event.Event.TheVariants as event;
@@ -17,7 +18,7 @@ ghost use Rattle.asan_laws.specs.Runs.{Step, fault_in};
 ghost use Rattle.asan_laws.specs.Traces.{IsOneHistory};
 ghost use Rattle.asan_plan.specs.Saying.{as_recorded, is_of_heap, kind_of_byte, left_by};
 ghost use Rattle.asan_plan.specs.Saying.{Fits, FitsIfFound, IsSeen, IsFoundFreed, said_events};
-ghost use Rattle.asan_plan.specs.Saying.{least_bound, IsStatedOf, IsFit, BringsThere};
+ghost use Rattle.asan_plan.specs.Saying.{least_bound, HasLeft, IsStatedOf, IsFit, BringsThere};
 
 use asan_shades::left_byte;
 use asan_units::{ADDRESS_END, GRANULE, REDZONE, round_up};
@@ -100,7 +101,8 @@ fn front(shadow: u8) -> u8
 
 /// Whether a block has room for its redzones, and starts at a granule.
 fn is_placed(region: &Region) -> bool
-    ensures { result ≡ true → IsPlaced (block_of region.now) }
+    ensures placed { result ≡ true → IsPlaced (block_of region.now) }
+    ensures all { IsPlaced (block_of region.now) → result ≡ true }
 {
     let at = region.at();
     at.is_multiple_of(GRANULE)
@@ -114,6 +116,7 @@ fn has_left(found: &Around, granule: u64, shadow: u8) -> bool
     ensures placed { result ≡ true → IsPlaced (block_of found.now.region) }
     ensures left { result ≡ true →
         left_by (block_of found.now.region) found.now.is_held granule ≡ shadow }
+    ensures all { HasLeft found.now granule shadow → result ≡ true }
 {
     let region = &found.region;
     is_placed(region) && left_byte(region.at(), region.size(), found.is_held, 0, granule) == shadow
@@ -152,6 +155,7 @@ fn block_with(granule: u64, shadow: u8, found: Option<Around>) -> Around
     ensures left { left_by (block_of result.region) result.is_held granule ≡ shadow }
     ensures fits { (bound : ℕ) → least_bound ≤ bound → FitsIfFound bound found →
         Fits bound result }
+    ensures own { (b : Around) → found ≡ Some b → HasLeft b granule shadow → result ≡ b }
 {
     match found {
         Some(found) => {
@@ -221,8 +225,10 @@ fn say_here(granule: u64, here: u8, found: Option<Around>) -> Said
     requires high { granule + 9 ≤ granule_count }
     requires recorded { as_recorded here ≡ here }
     requires none { front_of here ≡ 0 }
-    ensures { (bound : ℕ) → least_bound ≤ bound → FitsIfFound bound found → (next : ℕ) →
+    ensures brings { (bound : ℕ) → least_bound ≤ bound → FitsIfFound bound found → (next : ℕ) →
         BringsThere bound granule here next (said_events result) }
+    ensures own { (b : Around) → found ≡ Some b → IsTrue (is_of_heap here) →
+        HasLeft b granule here → IsStatedOf b result.block }
 {
     if is_of_heap(here) {
         Said {
@@ -243,8 +249,10 @@ fn say_by_block(granule: u64, here: u8, next: u8, found: Option<Around>) -> Said
     requires high { granule + 10 ≤ granule_count }
     requires some { 0 < front_of here }
     requires heap { is_of_heap next ≡ true }
-    ensures { (bound : ℕ) → least_bound ≤ bound → FitsIfFound bound found →
+    ensures brings { (bound : ℕ) → least_bound ≤ bound → FitsIfFound bound found →
         BringsThere bound granule here next (said_events result) }
+    ensures own { (b : Around) → found ≡ Some b → HasLeft b (granule + 1) next →
+        IsStatedOf b result.block }
 {
     let block = block_with(granule + 1, next, found);
     let region = &block.region;
@@ -289,6 +297,10 @@ pub fn say_access(granule: u64, here: u8, next: u8, found: Option<Around>) -> Sa
         IsSeen run granule (as_recorded here) (as_recorded next) →
         fault_of bound (said_events result) (access_event is_store access)
         ≡ fault_in run (access_event is_store access) }
+    ensures own { (b : Around) → found ≡ Some b → front_of here ≡ 0 →
+        IsTrue (is_of_heap here) → HasLeft b granule here → IsStatedOf b result.block }
+    ensures own_next { (b : Around) → found ≡ Some b → 0 < front_of here →
+        IsTrue (is_of_heap next) → HasLeft b (granule + 1) next → IsStatedOf b result.block }
 {
     let here = recorded(here);
     let next = recorded(next);

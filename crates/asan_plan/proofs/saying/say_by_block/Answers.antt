@@ -5,8 +5,8 @@ use Rattle.asan_plan.specs.Saying.{left_by}
 use Rattle.asan_plan.proofs.Stating.{block_next}
 use Rattle.asan_plan.proofs.saying.say_by_block.Goals as goal
 
-pub returns : goal.returns
-returns c bound least fits =
+pub returns-clause-brings : goal.returns-clause-brings
+returns-clause-brings c bound least fits =
     let block = c.block_with-block.ensures in
     let found = c.block_with-block.result in
     let left = rw (c.at.ensures, c.size.ensures) at c.left_byte-had.ensures in
